@@ -1,0 +1,4 @@
+pub mod Theory
+pub mod Total
+pub mod Trees
+pub mod Nodes

@@ -1,0 +1,29 @@
+-- How an expression that ends came to its end: the nodes of the rules that it called on its way.
+use Rattle.std.specs.Prelude.{◌≡◌, ℕ, ◌<◌, List, [], ◌∷◌, ◌++◌}
+use Rattle.asn_rules.specs.Expression.{Expression, see, seq, choice, many, never, guarded, rule, Sight, rule_of}
+use Rattle.asn_rules.specs.Runs.{ends, fails, seen, judged, Runs}
+use Rattle.asn_rules.specs.declared.expr.Guard.{Guard}
+use Rattle.asn_rules.specs.declared.node.Node.{Node}
+use Rattle.asn_rules.specs.declared.node.Node.TheViews.{roll-Node}
+
+abbrev pub node : ℕ → ℕ → ℕ → List Node → Node
+node r i j children = roll-Node (record { rule = r; start = i; end = j; children = children })
+
+-- The expression, tried at the one offset, ends at the other by way of the nodes. What was tried and failed leaves none.
+pub data Derives (rules : List Expression) (text : List ℕ) : Expression → ℕ → ℕ → List Node → Type 0 where
+  sees : {s : Sight} {i j : ℕ} → seen text s i ≡ ends j → Derives rules text (see s) i j []
+  joins : {a b : Expression} {i j k : ℕ} {m n : List Node} → Derives rules text a i j m → Derives rules text b j k n → Derives rules text (seq a b) i k (m ++ n)
+  takes : {a b : Expression} {i j : ℕ} {n : List Node} → Derives rules text a i j n → Derives rules text (choice a b) i j n
+  turns_to : {a b : Expression} {i j h : ℕ} {n : List Node} → Runs rules text a i fails h → Derives rules text b i j n → Derives rules text (choice a b) i j n
+  repeats : {a : Expression} {i j k : ℕ} {m n : List Node} → Derives rules text a i j m → i < j → Derives rules text (many a) j k n → Derives rules text (many a) i k (m ++ n)
+  idles : {a : Expression} {i h : ℕ} → Runs rules text a i (ends i) h → Derives rules text (many a) i i []
+  stops : {a : Expression} {i h : ℕ} → Runs rules text a i fails h → Derives rules text (many a) i i []
+  misses : {a : Expression} {i h : ℕ} → Runs rules text a i fails h → Derives rules text (never a) i i []
+  passes : {a : Expression} {g : Guard} {i j : ℕ} {n : List Node} → Derives rules text a i j n → judged text g i j ≡ ends j → Derives rules text (guarded a g) i j n
+  stands : {r i j : ℕ} {n : List Node} → Derives rules text (rule_of rules r) i j n → Derives rules text (rule r) i j (node r i j n ∷ [])
+
+-- An expression ends exactly where it has nodes, and it has one list of them.
+pub record OneTree (rules : List Expression) (text : List ℕ) (e : Expression) (i : ℕ) : Type 0 where
+  pub some : (j h : ℕ) → Runs rules text e i (ends j) h → (n : List Node) × Derives rules text e i j n
+  pub ended : (j : ℕ) (n : List Node) → Derives rules text e i j n → (h : ℕ) × Runs rules text e i (ends j) h
+  pub only : (j k : ℕ) (m n : List Node) → Derives rules text e i j m → Derives rules text e i k n → (j ≡ k) × (m ≡ n)

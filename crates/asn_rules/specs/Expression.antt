@@ -1,0 +1,51 @@
+-- Expressions of an ordered grammar, and how the code's expressions read as these.
+use Rattle.std.specs.Prelude.{ℕ, ◌+◌, List, [], get_or}
+use Rattle.asn_rules.specs.declared.expr.ByteClass.{ByteClass}
+use Rattle.asn_rules.specs.declared.expr.Guard.{Guard}
+use Rattle.asn_rules.specs.declared.expr.Look.{Look}
+use Rattle.asn_rules.specs.declared.expr.Look.TheVariants.{Bytes, Word, OneOf}
+use Rattle.asn_rules.specs.declared.expr.Expr.{Expr}
+use Rattle.asn_rules.specs.declared.expr.Expr.TheVariants.{See, Call, Sequence', Choice', Many', Not', Guarded'}
+
+pub data Sight : Type 0 where
+  bytes : List ℕ → Sight
+  word : List ℕ → Sight
+  one_of : ByteClass → Sight
+
+pub data Expression : Type 0 where
+  see : Sight → Expression
+  seq : Expression → Expression → Expression
+  choice : Expression → Expression → Expression
+  many : Expression → Expression
+  never : Expression → Expression
+  guarded : Expression → Guard → Expression
+  rule : ℕ → Expression
+
+abbrev pub sight : Look → Sight
+sight (Bytes b) = bytes b.now
+sight (Word w) = word w.now
+sight (OneOf c) = one_of c
+
+-- a code's expression
+abbrev pub expression : Expr → Expression
+expression (See l) = see (sight l)
+expression (Call r) = rule r
+expression (Sequence' p a q b) = seq (expression a) (expression b)
+expression (Choice' p a q b) = choice (expression a) (expression b)
+expression (Many' p a) = many (expression a)
+expression (Not' p a) = never (expression a)
+expression (Guarded' p a g) = guarded (expression a) g
+
+-- the rule of this number; one that is not there fails everywhere
+abbrev pub rule_of : List Expression → ℕ → Expression
+rule_of rules r = get_or rules r (never (see (bytes [])))
+
+-- how many forms it is made of
+abbrev pub weight : Expression → ℕ
+weight (see s) = 1
+weight (seq a b) = 1 + weight a + weight b
+weight (choice a b) = 1 + weight a + weight b
+weight (many a) = 2 + weight a
+weight (never a) = 1 + weight a
+weight (guarded a g) = 1 + weight a
+weight (rule r) = 1

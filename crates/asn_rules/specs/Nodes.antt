@@ -1,0 +1,45 @@
+-- Functions of a whole node, by a step that sees each child beside what was made of it.
+use Rattle.std.specs.Prelude.{ℕ, List, [], ◌∷◌, map, nat_eq, Option, Some, None, cond}
+use Rattle.std.specs.List.{find}
+use Rattle.asn_rules.specs.declared.node.Node.{Node}
+use Rattle.asn_rules.specs.declared.node.Node.TheOpen.{Node-F}
+use Rattle.asn_rules.specs.declared.node.Node.TheViews.{roll-Node, out-Node}
+use Rattle.asn_rules.specs.declared.node.Node.TheFolds.{fold-Node}
+
+-- a node opened, with a value beside each child
+abbrev pub Opened : Type 0 → Type 0
+Opened A = Node-F (Node × A)
+
+abbrev pub closed : {A : Type 0} → Opened A → Node
+closed x = roll-Node (record { rule = x.rule; start = x.start; end = x.end; children = map (λ c. c.0) x.children })
+
+abbrev pub both_step : (A : Type 0) → (Opened A → A) → Opened A → Node × A
+both_step A step x = (closed x, step x)
+
+abbrev pub para : (A : Type 0) → (Opened A → A) → Node → A
+para A step n = (fold-Node (Node × A) (both_step A step) n).1
+
+-- the first of this rule
+abbrev pub child_among : List Node → ℕ → Option Node
+child_among ns r = find (λ n. nat_eq (out-Node n).rule r) ns
+
+abbrev pub child_of : Node → ℕ → Option Node
+child_of n r = child_among (out-Node n).children r
+
+abbrev pub at_child : {B : Type 0} → Option Node → B → (Node → B) → B
+at_child None z f = z
+at_child (Some n) z f = f n
+
+-- what was made of the first child of this rule
+abbrev pub made : {A B : Type 0} → List (Node × A) → ℕ → B → (A → B) → B
+made [] r z f = z
+made (c ∷ cs) r z f = cond (nat_eq (out-Node c.0).rule r) (f c.1) (made cs r z f)
+
+-- what was made of each child of this rule
+abbrev pub made_all : {A B : Type 0} → List (Node × A) → ℕ → (A → B) → List B
+made_all [] r f = []
+made_all (c ∷ cs) r f = cond (nat_eq (out-Node c.0).rule r) (f c.1 ∷ made_all cs r f) (made_all cs r f)
+
+abbrev pub at_children : {B : Type 0} → List Node → ℕ → (Node → B) → List B
+at_children [] r f = []
+at_children (n ∷ ns) r f = cond (nat_eq (out-Node n).rule r) (f n ∷ at_children ns r f) (at_children ns r f)
