@@ -1,0 +1,13 @@
+//! Typed trees read off the derivation of a text: headers, definitions and whole readings.
+//!
+//! It stands on the grammar, which gives one derivation for each text that is read, and on the trees. No reader
+//! here sees an outcome or asks the grammar anything: each is a function of a node, and offsets occur only as the
+//! bounds of a slice. The layer above calls `asn_spec` alone.
+#![tactic(auto)]
+
+mod modules;
+mod parts;
+mod types;
+mod whole;
+
+pub use whole::{SpecError, asn_spec, one_reading};

@@ -1,0 +1,122 @@
+//! Headers of modules, their exports and imports, and tags (X.680 clauses 13, 31 and 32).
+
+use asn_memory::{List, Text};
+
+/// The header of a module (X.680 13.1).
+#[derive(Drop)]
+pub struct ModuleReference {
+    pub name: Text,
+    pub module_identifier: Option<DefinitiveIdentifier>,
+    pub encoding_reference_default: Option<EncodingReferenceDefault>,
+    pub tagging_environment: TaggingEnvironment,
+    pub extensibility_environment: ExtensibilityEnvironment,
+    /// The imports in order, one for each `FROM`.
+    pub imports: List<Import>,
+    /// The exports, where EXPORTS stands.
+    pub exports: Option<Exports>,
+}
+
+/// The object identifier that names a module (X.680 13.1).
+#[derive(Drop)]
+pub enum DefinitiveIdentifier {
+    DefinitiveOID(ObjectIdentifierValue),
+    DefinitiveOIDandIRI { oid: ObjectIdentifierValue, iri: Text },
+}
+
+/// The encoding reference of a module (X.680 13.1).
+#[derive(Drop)]
+pub struct EncodingReferenceDefault(pub Text);
+
+/// How the tags of a module are read (X.680 13.2).
+#[derive(Clone, Copy, Debug, PartialEq, Eq)]
+pub enum TaggingEnvironment {
+    Automatic,
+    Implicit,
+    Explicit,
+}
+
+/// Whether a module implies extension markers (X.680 13.4).
+#[derive(Clone, Copy, Debug, PartialEq, Eq)]
+pub enum ExtensibilityEnvironment {
+    Implied,
+    Explicit,
+}
+
+/// Symbols imported from one module (X.680 13.1).
+#[derive(Drop)]
+pub struct Import {
+    /// The imported names in order.
+    pub types: List<Text>,
+    pub global_module_reference: GlobalModuleReference,
+    pub with: Option<With>,
+}
+
+/// Which other versions of a module serve an import (X.680 13.1).
+#[derive(Clone, Copy, Debug, PartialEq, Eq)]
+pub enum With {
+    Successors,
+    Descendants,
+}
+
+/// The module that an import names (X.680 13.1).
+#[derive(Drop)]
+pub struct GlobalModuleReference {
+    pub module_reference: Text,
+    pub assigned_identifier: AssignedIdentifier,
+}
+
+/// The identifier assigned to an imported module (X.680 13.1).
+#[derive(Drop)]
+pub enum AssignedIdentifier {
+    ObjectIdentifierValue(ObjectIdentifierValue),
+    ExternalValueReference(ExternalValueReference),
+    ValueReference(Text),
+    ParameterizedValue {
+        value_reference: Text,
+        actual_parameter_list: Text,
+    },
+    Empty,
+}
+
+/// A value reference with its module's name (X.680 14.1).
+#[derive(Drop)]
+pub struct ExternalValueReference {
+    pub module_reference: Text,
+    pub value_reference: Text,
+}
+
+/// What a module exports (X.680 13.1).
+#[derive(Drop)]
+pub enum Exports {
+    /// These names.
+    Identifier(List<Text>),
+    All,
+}
+
+/// An object identifier value (X.680 32.3).
+#[derive(Drop)]
+pub struct ObjectIdentifierValue(pub List<ObjectIdentifierArc>);
+
+/// An arc of an object identifier: a name, a number, or both (X.680 32.3).
+#[derive(Drop)]
+pub struct ObjectIdentifierArc {
+    pub name: Option<Text>,
+    pub number: Option<u128>,
+}
+
+/// The class of a tag (X.680 31.2).
+#[derive(Clone, Copy, Debug, PartialEq, Eq)]
+pub enum TagClass {
+    Universal,
+    Application,
+    Private,
+    ContextSpecific,
+}
+
+/// A tag written before a type (X.680 31.2).
+#[derive(Clone, Copy, Debug, PartialEq, Eq)]
+pub struct AsnTag {
+    pub environment: TaggingEnvironment,
+    pub tag_class: TagClass,
+    pub id: u64,
+}

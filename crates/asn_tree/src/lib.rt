@@ -1,0 +1,29 @@
+//! The trees of ASN.1 modules: plain data, which knows nothing of texts' bytes or of names' meaning.
+//!
+//! One module for each family of the grammar: headers, definitions, types, constraints, values. The structs have
+//! all the fields that the notation needs; the enums have the variants that are read so far. A struct that stands
+//! beside the types that lead back to themselves is generic in what it holds and is used by its alias, so that it
+//! stays out of the cycle of types, which is what a check of these trees costs.
+#![tactic(auto)]
+
+mod constraints;
+mod definitions;
+mod headers;
+mod types;
+mod values;
+
+pub use constraints::{Constraint, ElementOrSetOperation, ElementSet, ElementSetOver, SubtypeElement};
+pub use definitions::{
+    ParameterGovernor, Parameterization, ParameterizationArgument, Reading, ToplevelDefinition,
+    ToplevelTypeDefinition,
+};
+pub use headers::{
+    AsnTag, AssignedIdentifier, DefinitiveIdentifier, EncodingReferenceDefault, Exports,
+    ExtensibilityEnvironment, ExternalValueReference, GlobalModuleReference, Import,
+    ModuleReference, ObjectIdentifierArc, ObjectIdentifierValue, TagClass, TaggingEnvironment, With,
+};
+pub use types::{
+    ASN1Type, Boolean, BooleanOver, DeclarationElsewhere, DeclarationElsewhereOver,
+    DistinguishedValue, Integer, IntegerOver, SequenceOrSet, SequenceOrSetMember,
+};
+pub use values::ASN1Value;
