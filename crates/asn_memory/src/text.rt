@@ -1,12 +1,14 @@
 //! `Text`: an owned string, seen by contracts as the list of its bytes.
 
-ghost use Rattle.std.specs.Cmp.Lexicographic.{pointwise, nat_list_eq_equiv};
+ghost use Rattle.std.specs.Cmp.Lexicographic.{pointwise, nat_list_cmp_total, nat_list_eq_equiv, slice_cmp, texts_po, texts_ties};
 ghost use Rattle.std.specs.Cmp.{partial_equiv_from_equiv};
-ghost use Rattle.std.specs.Prelude.{◌≡◌, ◌++◌, nat_eq, length, IfOk, OnOk, OnErr};
+ghost use Rattle.std.specs.Ordering.{nat_cmp};
+ghost use Rattle.std.specs.Prelude.{◌≡◌, ◌++◌, nat_eq, length, IfOk, OnOk, OnErr, Some, refl};
 ghost use Rattle.std.specs.Str.Lossy.{utf8_lossy};
 
 use crate::memory::Mem;
 use std::alloc::{AllocError, Global};
+use std::cmp::Ordering;
 use std::marker::Model;
 
 /// A `String` that contracts see as the list of its bytes. It keeps its allocator.
@@ -85,6 +87,31 @@ impl PartialEq for Text {
 
 impl Eq for Text {
     ghost laws = { nat_list_eq_equiv };
+}
+
+/// Byte order, as `str` has it.
+impl PartialOrd for Text {
+    ghost partial_cmp = { λ x y. Some (slice_cmp nat_cmp x y) };
+
+    ghost laws = { texts_po };
+
+    fn partial_cmp(&self, other: &Text) -> Option<Ordering> {
+        Some(self.text.as_str().cmp(other.text.as_str()))
+    }
+}
+
+impl Ord for Text {
+    ghost cmp = { λ x y. slice_cmp nat_cmp x y };
+
+    ghost total = { nat_list_cmp_total };
+
+    ghost matches_partial_cmp = { λ x y. refl };
+
+    ghost matches_eq = { λ x y. texts_ties x y };
+
+    fn cmp(&self, other: &Text) -> Ordering {
+        self.text.as_str().cmp(other.text.as_str())
+    }
 }
 
 impl Clone for Text {
