@@ -9,6 +9,7 @@ ghost use Rattle.std.specs.Str.Lossy.{utf8_lossy};
 use crate::memory::Mem;
 use std::alloc::{AllocError, Global};
 use std::cmp::Ordering;
+use std::fmt;
 use std::marker::Model;
 
 /// A `String` that contracts see as the list of its bytes. It keeps its allocator.
@@ -111,6 +112,12 @@ impl Ord for Text {
 
     fn cmp(&self, other: &Text) -> Ordering {
         self.text.as_str().cmp(other.text.as_str())
+    }
+}
+
+impl fmt::Debug for Text {
+    fn fmt<W: fmt::Write>(&self, f: &mut fmt::Formatter<W>) -> fmt::Result {
+        fmt::Debug::fmt(self.text.as_str(), f)
     }
 }
 

@@ -8,6 +8,7 @@
 
 mod constraints;
 mod definitions;
+mod errors;
 mod headers;
 mod types;
 mod values;
@@ -17,6 +18,7 @@ pub use definitions::{
     ParameterGovernor, Parameterization, ParameterizationArgument, Reading, ToplevelDefinition,
     ToplevelTypeDefinition,
 };
+pub use errors::{GrammarErrorType, LinkerError, LinkerErrorType};
 pub use headers::{
     AsnTag, AssignedIdentifier, DefinitiveIdentifier, EncodingReferenceDefault, Exports,
     ExtensibilityEnvironment, ExternalValueReference, GlobalModuleReference, Import,

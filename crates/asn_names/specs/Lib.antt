@@ -1,0 +1,4 @@
+pub mod Definitions
+pub mod Occurrences
+pub mod Faults
+pub mod Index

@@ -1,0 +1,14 @@
+//! What names mean: which definition a name stands for, what a definition reaches, what is wrong with it, and which
+//! value trees a type accepts.
+//!
+//! It stands on the trees and rewrites nothing: names are looked up, one tree at a time is judged. The definitions
+//! of meaning stand in specs/, where the layers above cite them.
+#![tactic(auto)]
+
+mod faults;
+mod look;
+mod names;
+
+pub use faults::Fault;
+pub use look::name_of_definition;
+pub use names::{Names, Place};
