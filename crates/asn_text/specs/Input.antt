@@ -1,0 +1,13 @@
+-- What an `Input` shows.
+use Rattle.asn_text.specs.declared.input.Input.{Input}
+use Rattle.asn_text.specs.Part.{Part}
+
+-- the part of a source text that the input shows
+abbrev pub part_of : Input → Part
+part_of input = record {
+  source = input.source.now;
+  start = input.offset;
+  end = input.end;
+  context_line = input.context_start_line;
+  context_start = input.context_start_offset
+}

@@ -1,0 +1,10 @@
+//! Parts of a source text with their positions: where a reader of the text stands.
+//!
+//! It stands on the texts, lists and boxes of `asn_memory`, which it hands on. The readers and the errors of the
+//! crates above speak of places in a text through it; it knows nothing of trees.
+#![tactic(auto)]
+
+pub mod input;
+
+pub use asn_memory::{Box, List, Mem, OutOfMemory, Text};
+pub use input::Input;
