@@ -1,6 +1,6 @@
 -- The rest of a range of a list.
 use Rattle.std.proofs.Common.{◌≡◌, ◌≤◌, ◌<◌, ℕ, ◌+◌, ◌-◌, List, length, get_or, take, drop, ap, sym, ◌∙◌, arith}
-use Rattle.std.proofs.lemmas.List.{drop-drop, drop-take, get_or-drop, get_or-take, length-take, length-drop}
+use Rattle.std.proofs.lemmas.List.{drop-drop, drop-take, get_or-drop, get_or-take}
 use Rattle.std.proofs.lemmas.Grind.{common_steps}
 use Rattle.std.specs.Prelude.{slice_range}
 
@@ -8,8 +8,8 @@ pub rest_of_range : (xs : List ℕ) (start n end : ℕ) → start + n ≤ end �
 rest_of_range xs start n end within =
     let size : end - start ≡ n + (end - (start + n)) = omega arith in
     sym (ap (λ k. drop n (take k (drop start xs))) size
-      ∙ drop-take n (end - (start + n)) (drop start xs)
-      ∙ ap (take (end - (start + n))) (drop-drop n start xs))
+    ∙ drop-take n (end - (start + n)) (drop start xs)
+    ∙ ap (take (end - (start + n))) (drop-drop n start xs))
 
 pub range_length : (xs : List ℕ) (start n : ℕ) → start + n ≤ length xs → length (slice_range xs start (start + n)) ≡ n
 range_length xs start n within = grind (arith, common_steps)

@@ -1,10 +1,10 @@
 -- The position at the start of a text, how it changes over one byte, and how large it gets.
-use Rattle.std.proofs.Common.{◌≡◌, ◌≢◌, ◌<◌, ◌≤◌, ℕ, ◌+◌, ◌-◌, Bool, true, false, List, length, get_or, take, drop, ap, refl, ◌∙◌, arith, length-drop, length-take}
+use Rattle.std.proofs.Common.{◌≡◌, ◌≢◌, ◌<◌, ◌≤◌, ℕ, ◌+◌, ◌-◌, Bool, true, false, List, length, get_or, take, ap, refl, ◌∙◌, arith, length-drop, length-take}
 use Rattle.std.proofs.lemmas.Bool.{eq-eqb}
 use Rattle.std.proofs.lemmas.Bool.Decides.{nat_tests}
 use Rattle.std.proofs.lemmas.List.Sums.{suffix_len-le-length, suffix_len-take_no, suffix_len-take_yes, count_by_more_no, count_by_more_yes, count_by-le-length}
-use Rattle.std.specs.Prelude.{count_by, not}
-use Rattle.std.specs.List.{suffix_len, after_last}
+use Rattle.std.specs.Prelude.{not}
+use Rattle.std.specs.List.{suffix_len}
 use Rattle.asn_text.specs.Position.{is_line_feed, line_at, column_at}
 
 abbrev is_other : ℕ → Bool

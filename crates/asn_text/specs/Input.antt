@@ -9,5 +9,5 @@ part_of input = record {
   start = input.offset;
   end = input.end;
   context_line = input.context_start_line;
-  context_start = input.context_start_offset
+  context_start = input.context_start_offset;
 }

@@ -1,6 +1,5 @@
 -- A part of a source text, and the start of the context that it is read in.
-use Rattle.std.specs.Prelude.{ℕ, ◌+◌, ◌≤◌, List, length, slice_range}
-use Rattle.std.specs.Str.{IsCharBoundary}
+use Rattle.std.specs.Prelude.{ℕ, ◌+◌, List, length, slice_range}
 use Rattle.asn_text.specs.Position.{line_at}
 
 -- the bytes of `source` from `start` up to `end`, and the line and the offset where the context begins

@@ -1,4 +1,4 @@
--- Lines and columns of a text, both counted from 1. X.680 12.1.6 ends a line at a newline character; here that is the line feed alone.
+-- Lines and columns of a text, both counted from 1, as text editors count them. X.680 gives the places of a text no numbers.
 use Rattle.std.specs.Prelude.{ℕ, ◌+◌, ◌==◌, Bool, List, length, take, count_by}
 use Rattle.std.specs.List.{after_last}
 

@@ -44,7 +44,7 @@ impl<'a> From<&'a str> for Input<'a> {
 }
 
 impl<'a> Input<'a> {
-    ghost use Rattle.std.specs.Prelude.{◌≡◌, ◌≤◌, nat_eq, length, drop, take};
+    ghost use Rattle.std.specs.Prelude.{◌≡◌, ◌+◌, nat_eq, length, drop, take};
     ghost use Rattle.std.specs.Str.{IsCharBoundary};
     ghost use Rattle.asn_text.specs.Position.{line_at, column_at};
     ghost use Rattle.asn_text.specs.Input.{part_of};
@@ -121,7 +121,8 @@ impl<'a> Input<'a> {
         self.context_start_offset = self.offset;
     }
 
-    /// What follows the first `n` bytes, with its position, in the same context.
+    /// What follows the first `n` bytes, with its position, in the same context. `inner().is_char_boundary(n)` tells
+    /// whether it may be asked for. The work grows with `n`.
     pub fn slice_from(&self, n: usize) -> Input<'a>
         requires { IsCharBoundary (shown (part_of self.now)) n }
         ensures part { part_of result ≡ part_from n (part_of self.now) }
@@ -148,7 +149,16 @@ impl<'a> Input<'a> {
         }
     }
 
-    /// The first `n` bytes, at this input's position and in its context.
+    /// A law: what follows `first` bytes, and then `second` bytes of that, is what follows their sum.
+    pub fn slice_from_adds(&self, first: usize, second: usize)
+        requires first_within { IsCharBoundary (shown (part_of self.now)) first }
+        requires second_within { IsCharBoundary (drop first (shown (part_of self.now))) second }
+        ensures sum_within { IsCharBoundary (shown (part_of self.now)) (first + second) }
+        ensures same { part_from second (part_from first (part_of self.now)) ≡ part_from (first + second) (part_of self.now) }
+    {}
+
+    /// The first `n` bytes, at this input's position and in its context. `inner().is_char_boundary(n)` tells whether
+    /// they may be asked for.
     pub fn slice_to(&self, n: usize) -> Input<'a>
         requires { IsCharBoundary (shown (part_of self.now)) n }
         ensures part { part_of result ≡ part_to n (part_of self.now) }

@@ -4,7 +4,9 @@
 //! crates above speak of places in a text through it; it knows nothing of trees.
 #![tactic(auto)]
 
-pub mod input;
+mod input;
+#[cfg(test)]
+mod tests;
 
 pub use asn_memory::{Box, List, Mem, OutOfMemory, Text};
 pub use input::Input;

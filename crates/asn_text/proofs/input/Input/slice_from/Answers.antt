@@ -1,4 +1,4 @@
-use Rattle.std.proofs.Common.{◌≡◌, ◌≢◌, ◌+◌, ◌≤◌, ◌<◌, length, get_or, ap, sym, ◌∙◌, arith}
+use Rattle.std.proofs.Common.{◌≡◌, ◌≢◌, ◌+◌, get_or, ap, sym, ◌∙◌, arith}
 use Rattle.asn_text.proofs.Parts.{rest_of_range, range_length, range_within, range_byte, range_reach}
 use Rattle.asn_text.proofs.Positions.{line_after_feed, line_after_other, column_after_feed, column_after_other, line_bound, column_bound}
 use Rattle.asn_text.specs.Position.{line_at, column_at}
@@ -16,18 +16,18 @@ loop-byte-preserved c =
     let read = range_byte text offset c.args.n i below in
     let within = (range_within text offset c.args.n i below).1 in
     elim c.if-byte-eq10.branch [
-      then-byte-eq10 w ↦
-        let feed = sym read ∙ (rw c.as_bytes.ensures.value at w.if-byte-eq10.true) in
-        record {
-          line = rw next (omega (arith, line_after_feed text at within feed));
-          column = rw next (omega (arith, column_after_feed text at within feed))
-        }
+      | then-byte-eq10 w ↦
+          let feed = sym read ∙ (rw c.as_bytes.ensures.value at w.if-byte-eq10.true) in
+          record {
+            line = rw next (omega (arith, line_after_feed text at within feed));
+            column = rw next (omega (arith, column_after_feed text at within feed));
+          }
       | else-byte-eq10 w ↦
-        let other : get_or text at 0 ≢ 10 = λ feed. (rw c.as_bytes.ensures.value at w.if-byte-eq10.false) (read ∙ feed) in
-        record {
-          line = rw next (omega (arith, line_after_other text at within other));
-          column = rw next (omega (arith, column_after_other text at within other))
-        }
+          let other : get_or text at 0 ≢ 10 = λ feed. (rw c.as_bytes.ensures.value at w.if-byte-eq10.false) (read ∙ feed) in
+          record {
+            line = rw next (omega (arith, line_after_other text at within other));
+            column = rw next (omega (arith, column_after_other text at within other));
+          }
     ]
 
 -- the loop ends behind the n bytes
