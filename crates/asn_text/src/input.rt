@@ -154,7 +154,8 @@ impl<'a> Input<'a> {
         requires first_within { IsCharBoundary (shown (part_of self.now)) first }
         requires second_within { IsCharBoundary (drop first (shown (part_of self.now))) second }
         ensures sum_within { IsCharBoundary (shown (part_of self.now)) (first + second) }
-        ensures same { part_from second (part_from first (part_of self.now)) ≡ part_from (first + second) (part_of self.now) }
+        ensures same { let part = part_of self.now in
+            part_from second (part_from first part) ≡ part_from (first + second) part }
     {}
 
     /// The first `n` bytes, at this input's position and in its context. `inner().is_char_boundary(n)` tells whether
@@ -164,14 +165,8 @@ impl<'a> Input<'a> {
         ensures part { part_of result ≡ part_to n (part_of self.now) }
         ensures first { shown (part_of result) ≡ take n (shown (part_of self.now)) }
     {
-        Input {
-            source: self.source,
-            offset: self.offset,
-            end: self.offset + n,
-            line: self.line,
-            column: self.column,
-            context_start_line: self.context_start_line,
-            context_start_offset: self.context_start_offset,
-        }
+        let mut first = *self;
+        first.end = self.offset + n;
+        first
     }
 }

@@ -1,5 +1,5 @@
 use Rattle.std.proofs.Common.{◌≡◌, ◌≢◌, ◌+◌, get_or, ap, sym, ◌∙◌, arith}
-use Rattle.asn_text.proofs.Parts.{rest_of_range, range_length, range_within, range_byte, range_reach}
+use Rattle.asn_text.proofs.Parts.{rest_of_range, range_within, range_byte, range_reach, range_passed}
 use Rattle.asn_text.proofs.Positions.{line_after_feed, line_after_other, column_after_feed, column_after_other, line_bound, column_bound}
 use Rattle.asn_text.specs.Position.{line_at, column_at}
 use Rattle.asn_text.proofs.input.Input.slice_from.Goals as goal
@@ -30,43 +30,41 @@ loop-byte-preserved c =
           }
     ]
 
--- the loop ends behind the n bytes
-all_passed : (c : goal.After-t10-1) → c.loop-byte.byte-index ≡ c.args.n
-all_passed c =
+pub invariant_of-result-clause-line_counted : goal.invariant_of-result-clause-line_counted
+invariant_of-result-clause-line_counted c =
     let self = c.args.self.now in
     let reach = range_reach self.source.now self.offset c.args.n self.end self.ordered c.requires.0 in
     let ended = rw c.as_bytes.ensures.value at c.loop-byte-test.false in
     let within = rw c.as_bytes.ensures.value at c.loop-byte.auto.byte-index-end in
-    omega (arith, range_length self.source.now self.offset c.args.n (omega arith))
-
-pub invariant_of-result-clause-line_counted : goal.invariant_of-result-clause-line_counted
-invariant_of-result-clause-line_counted c =
-    c.loop-byte.invariant.line ∙ ap (λ i. line_at c.args.self.now.source.now (c.args.self.now.offset + i)) (all_passed c)
+    let all = range_passed self.source.now self.offset c.args.n c.loop-byte.byte-index (omega arith) within ended in
+    c.loop-byte.invariant.line ∙ ap (λ i. line_at self.source.now (self.offset + i)) all
 
 pub invariant_of-result-clause-column_counted : goal.invariant_of-result-clause-column_counted
 invariant_of-result-clause-column_counted c =
-    c.loop-byte.invariant.column ∙ ap (λ i. column_at c.args.self.now.source.now (c.args.self.now.offset + i)) (all_passed c)
+    let self = c.args.self.now in
+    let reach = range_reach self.source.now self.offset c.args.n self.end self.ordered c.requires.0 in
+    let ended = rw c.as_bytes.ensures.value at c.loop-byte-test.false in
+    let within = rw c.as_bytes.ensures.value at c.loop-byte.auto.byte-index-end in
+    let all = range_passed self.source.now self.offset c.args.n c.loop-byte.byte-index (omega arith) within ended in
+    c.loop-byte.invariant.column ∙ ap (λ i. column_at self.source.now (self.offset + i)) all
 
 pub returns-clause-rest : goal.returns-clause-rest
 returns-clause-rest c =
     let self = c.args.self.now in
     rest_of_range self.source.now self.offset c.args.n self.end (range_reach self.source.now self.offset c.args.n self.end self.ordered c.requires.0)
 
--- neither number is past the length of the text
+-- the line is at most the number of bytes before it, and 1
 pub overflow_add-line : goal.overflow_add-line
 overflow_add-line c =
-    let text = c.args.self.now.source.now in
-    let at = c.args.self.now.offset + c.loop-byte.byte-index in
+    let self = c.args.self.now in
     let below = rw c.as_bytes.ensures.value at c.loop-byte-test.true in
-    let within = (range_within text c.args.self.now.offset c.args.n c.loop-byte.byte-index below).1 in
-    let size = c.as_bytes.ensures.len in
-    omega (arith, line_bound text at)
+    let within = (range_within self.source.now self.offset c.args.n c.loop-byte.byte-index below).1 in
+    omega (arith, c.as_bytes.ensures.len, line_bound self.source.now (self.offset + c.loop-byte.byte-index))
 
+-- and so is the column
 pub overflow_add-column : goal.overflow_add-column
 overflow_add-column c =
-    let text = c.args.self.now.source.now in
-    let at = c.args.self.now.offset + c.loop-byte.byte-index in
+    let self = c.args.self.now in
     let below = rw c.as_bytes.ensures.value at c.loop-byte-test.true in
-    let within = (range_within text c.args.self.now.offset c.args.n c.loop-byte.byte-index below).1 in
-    let size = c.as_bytes.ensures.len in
-    omega (arith, column_bound text at)
+    let within = (range_within self.source.now self.offset c.args.n c.loop-byte.byte-index below).1 in
+    omega (arith, c.as_bytes.ensures.len, column_bound self.source.now (self.offset + c.loop-byte.byte-index))
