@@ -1,6 +1,7 @@
 -- What an `Input` shows.
 use Rattle.asn_text.specs.declared.input.Input.{Input}
-use Rattle.asn_text.specs.Part.{Part}
+use Rattle.std.specs.Prelude.{Bool}
+use Rattle.asn_text.specs.Part.{Part, part_eq}
 
 -- the part of a source text that the input shows
 abbrev pub part_of : Input → Part
@@ -11,3 +12,7 @@ part_of input = record {
   context_line = input.context_start_line;
   context_start = input.context_start_offset;
 }
+
+-- whether two inputs show the same part
+abbrev pub input_eq : Input → Input → Bool
+input_eq a b = part_eq (part_of a) (part_of b)

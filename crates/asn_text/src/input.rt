@@ -6,7 +6,7 @@ ghost use Rattle.asn_text.specs.Position.{line_at, column_at};
 
 /// A part of a source text with its position, and the start of the context that it is read in. Offsets are in bytes
 /// from 0; lines and columns are counted from 1, columns in bytes.
-#[derive(Clone, Copy, Debug, PartialEq, Eq)]
+#[derive(Clone, Copy, Debug)]
 pub struct Input<'a> {
     source: &'a str,
     offset: usize,
@@ -41,6 +41,35 @@ impl<'a> From<&'a str> for Input<'a> {
             context_start_offset: 0,
         }
     }
+}
+
+impl PartialEq for Input<'_> {
+    ghost use Rattle.std.specs.Cmp.{partial_equiv_from_equiv};
+    ghost use Rattle.std.specs.Prelude.{◌≡◌, ◌↔◌, IsTrue};
+    ghost use Rattle.asn_text.specs.Input.{part_of, input_eq};
+    ghost use Rattle.asn_text.specs.Equality.{input_eq_equivalence};
+
+    ghost eq = { input_eq };
+
+    ghost laws = { partial_equiv_from_equiv input_eq_equivalence };
+
+    /// Whether both show the same part, with the same context.
+    fn eq(&self, other: &Self) -> bool
+        ensures gives { result ≡ input_eq self.now other.now }
+        ensures same { IsTrue result ↔ (part_of self.now ≡ part_of other.now) }
+    {
+        self.source == other.source
+            && self.offset == other.offset
+            && self.end == other.end
+            && self.context_start_line == other.context_start_line
+            && self.context_start_offset == other.context_start_offset
+    }
+}
+
+impl Eq for Input<'_> {
+    ghost use Rattle.asn_text.specs.Equality.{input_eq_equivalence};
+
+    ghost laws = { input_eq_equivalence };
 }
 
 impl<'a> Input<'a> {
