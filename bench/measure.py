@@ -1,0 +1,76 @@
+#!/usr/bin/env python3
+"""Times a program on texts of 10 KB, 100 KB and 1 MB, and prints a table: measure.py PROGRAM.
+
+run.sh calls it. The best of five runs counts. Peak memory is that of one further run, as GNU time tells it.
+"""
+
+import os
+import subprocess
+import sys
+import tempfile
+import time
+
+from make_text import text
+
+SIZES = (10_000, 100_000, 1_000_000)
+RUNS = 5
+GNU_TIME = "/usr/bin/time"
+# Clean, and with warnings: the two statuses of a text that was read and linked.
+READ_STATUSES = (0, 1)
+
+
+def run(command, source):
+    """One run on a file: its seconds, its status, and its peak memory in KB, or this interpreter's where that is more."""
+    with open(source, "rb") as given:
+        start = time.perf_counter()
+        child = subprocess.Popen(command, stdin=given, stdout=subprocess.DEVNULL)
+        _, status, usage = os.wait4(child.pid, 0)
+        seconds = time.perf_counter() - start
+    child.returncode = os.waitstatus_to_exitcode(status)
+    return seconds, child.returncode, usage.ru_maxrss
+
+
+def peak_memory(command, source):
+    """The peak memory of a run on a file, in KB.
+
+    A child begins with its parent's peak. GNU time is small, where this interpreter takes some 10 MB.
+    """
+    if not os.access(GNU_TIME, os.X_OK):
+        return run(command, source)[2]
+    with tempfile.NamedTemporaryFile("r") as told:
+        run([GNU_TIME, "-f", "%M", "-o", told.name] + command, source)
+        return int(told.read().split()[-1])
+
+
+def row(command, size, folder):
+    """Bytes, status, best seconds and peak memory in KB on a text of about `size` bytes."""
+    source = os.path.join(folder, f"{size}.asn1")
+    with open(source, "w", encoding="ascii") as out:
+        out.write(text(size))
+    runs = [run(command, source) for _ in range(RUNS)]
+    best = min(seconds for seconds, _, _ in runs)
+    return os.path.getsize(source), runs[-1][1], best, peak_memory(command, source)
+
+
+def print_table(rows):
+    """The rows, with the memory that a byte takes beyond the smallest text."""
+    print(f"{'bytes':>9} {'status':>6} {'best ms':>9} {'ns a byte':>9} {'peak KB':>9} {'bytes of memory a byte':>22}")
+    least_size, _, _, least_peak = rows[0]
+    for size, status, best, peak in rows:
+        more = size - least_size
+        slope = f"{(peak - least_peak) * 1024 / more:.1f}" if more else "-"
+        print(f"{size:>9} {status:>6} {best * 1e3:>9.2f} {best * 1e9 / size:>9.1f} {peak:>9} {slope:>22}")
+    if any(status not in READ_STATUSES for _, status, _, _ in rows):
+        print("a status beside 0 and 1: the text was not read, and the row says nothing of its linking")
+
+
+def main():
+    if len(sys.argv) != 2:
+        sys.exit("usage: measure.py PROGRAM")
+    command = [sys.argv[1], "link"]
+    with tempfile.TemporaryDirectory() as folder:
+        print_table([row(command, size, folder) for size in SIZES])
+
+
+if __name__ == "__main__":
+    main()

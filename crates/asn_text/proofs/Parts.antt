@@ -1,0 +1,34 @@
+-- Ranges of a list of bytes.
+use Rattle.std.proofs.Common.{◌≡◌, ◌≤◌, ◌<◌, ℕ, ◌+◌, ◌-◌, List, length, get_or, take, drop, ap, sym, ◌∙◌, arith}
+use Rattle.std.proofs.lemmas.List.{drop-drop, drop-take, get_or-drop, get_or-take}
+use Rattle.std.proofs.lemmas.Grind.{common_steps}
+use Rattle.std.specs.Prelude.{slice_range}
+
+-- what is left of a range behind its first n elements
+pub rest_of_range : (xs : List ℕ) (start n end : ℕ) → start + n ≤ end → slice_range xs (start + n) end ≡ drop n (slice_range xs start end)
+rest_of_range xs start n end within =
+    let size : end - start ≡ n + (end - (start + n)) = omega arith in
+    sym (ap (λ k. drop n (take k (drop start xs))) size
+    ∙ drop-take n (end - (start + n)) (drop start xs)
+    ∙ ap (take (end - (start + n))) (drop-drop n start xs))
+
+range_length : (xs : List ℕ) (start n : ℕ) → start + n ≤ length xs → length (slice_range xs start (start + n)) ≡ n
+range_length xs start n within = grind (arith, common_steps)
+
+-- a place in a range is a place in the list
+pub range_within : (xs : List ℕ) (start n i : ℕ) → i < length (slice_range xs start (start + n)) → (i < n) × (start + i < length xs)
+range_within xs start n i below = grind (arith, common_steps)
+
+-- a byte of a range is a byte of the list
+pub range_byte : (xs : List ℕ) (start n i : ℕ) → i < length (slice_range xs start (start + n)) → get_or (slice_range xs start (start + n)) i 0 ≡ get_or xs (start + i) 0
+range_byte xs start n i below =
+    let inside : i < start + n - start = omega (arith, range_within xs start n i below) in
+    get_or-take (start + n - start) (drop start xs) i 0 inside ∙ get_or-drop start xs i 0
+
+-- a walk over a range ends at its length
+pub range_passed : (xs : List ℕ) (start n i : ℕ) → start + n ≤ length xs → i ≤ length (slice_range xs start (start + n)) → length (slice_range xs start (start + n)) ≤ i → i ≡ n
+range_passed xs start n i within below above = omega (arith, range_length xs start n within)
+
+-- a range that has n elements reaches n past its start
+pub range_reach : (xs : List ℕ) (start n end : ℕ) → start ≤ end → n ≤ length (slice_range xs start end) → start + n ≤ end
+range_reach xs start n end ordered within = grind (arith, common_steps)

@@ -1,0 +1,4 @@
+pub mod Position
+pub mod Part
+pub mod Input
+pub mod Equality

@@ -1,0 +1,12 @@
+//! Parts of a source text with their positions: where a reader of the text stands.
+//!
+//! It stands on the texts, lists and boxes of `asn_memory`, which it hands on. The readers and the errors of the
+//! crates above speak of places in a text through it; it knows nothing of trees.
+#![tactic(auto)]
+
+mod input;
+#[cfg(test)]
+mod tests;
+
+pub use asn_memory::{Box, List, Mem, OutOfMemory, Text};
+pub use input::Input;
