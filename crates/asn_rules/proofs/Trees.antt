@@ -7,14 +7,32 @@ use Rattle.asn_rules.specs.Guards.{allows}
 use Rattle.asn_rules.specs.Runs.{Ending, ends, fails, seen, judged, Runs, seq_ends, seq_fails, choice_first, choice_second, many_turn, many_idle, many_fails, never_ends, never_fails, guard_judges, guard_fails, calls, skips}
 use Rattle.asn_rules.specs.Runs as runs
 use Rattle.asn_rules.specs.Answer.{Answer, at_height, raise, higher, then_from, or_else, turned, judge, turn, turns, expr_answer, call_answer, answer}
-use Rattle.asn_rules.specs.Derives.{Derives, OneTree, node, sees, joins, takes, turns_to, repeats, idles, stops, misses, passes, stands, leaves_none}
+use Rattle.asn_rules.specs.Derives.{Derives, OneTree, node, sees, joins, takes, turns_to, repeats, idles, stops, misses, passes, stands, leaves_none, Stand, ends_before, one_more}
 use Rattle.asn_rules.specs.Grown.{leafless, without_nodes, of_outcome, after, then_grow, else_grow, turn_growth, kept, judge_growth, grow_turn, grow_turns, expr_growth, topped, call_growth, grown, plain, Derivation}
 use Rattle.asn_rules.specs.declared.expression.Guard.{Guard}
 use Rattle.asn_rules.specs.declared.node.Node.{Node}
+use Rattle.asn_rules.specs.declared.node.Node.TheOpen.{Node-F}
+use Rattle.asn_rules.specs.declared.node.Node.TheViews.{out-Node, out-roll-Node}
 use Rattle.asn_rules.specs.declared.run.MatchFault.TheVariants as fault
 use Rattle.asn_rules.specs.declared.derive.Growth.{Growth}
 use Rattle.asn_rules.specs.declared.derive.Growth.TheVariants.{End, Fail, TooDeep}
 use Rattle.asn_rules.proofs.Theory.{runs_lies, complete, too_deep}
+
+opened_stand : (b k : ℕ) (n : Node) (ns : List Node) (x : Node-F Node) → out-Node n ≡ x → b ≤ x.start → x.start ≤ x.end → Stand x.start x.end x.children → Stand x.end k ns → Stand b k (n ∷ ns)
+opened_stand b k n ns x e = subst (λ x. b ≤ x.start → x.start ≤ x.end → Stand x.start x.end x.children → Stand x.end k ns → Stand b k (n ∷ ns)) e (λ p q s t. one_more p q s t)
+
+node_stands : (r i j : ℕ) (m : List Node) → i ≤ j → Stand i j m → Stand i j (node r i j m ∷ [])
+node_stands r i j m le s =
+    let x : Node-F Node = record { rule = r; start = i; end = j; children = m } in
+    opened_stand i j (node r i j m) [] x (out-roll-Node x) (omega arith) le s (ends_before (omega arith))
+
+stand_from : {i j k : ℕ} {n : List Node} → i ≤ j → Stand j k n → Stand i k n
+stand_from le (ends_before l) = ends_before (omega arith)
+stand_from le (one_more l w m n) = one_more (omega arith) w m n
+
+stand_append : {i j k : ℕ} {m n : List Node} → Stand i j m → Stand j k n → Stand i k (m ++ n)
+stand_append (ends_before l) t = stand_from l t
+stand_append (one_more l w m n) t = one_more l w m (stand_append n t)
 
 module _ (rules : List Expression) (text : List ℕ) where
   -- What is grown stands, and what fails fails.
@@ -332,6 +350,26 @@ module _ (rules : List Expression) (text : List ℕ) where
 
   pub one_tree_each : (e : Expression) (i : ℕ) → i ≤ length text → OneTree rules text e i
   one_tree_each e i le = record { some = λ j h p. some_tree e i j h le p; ended = λ j n p. ended_tree e i j n le p; only = λ j k m n p q. one_tree e i j k m n le p q }
+
+  -- The nodes stand in order, each one's children within it.
+  within : {e : Expression} {i j : ℕ} {m : List Node} → Derives rules text e i j m → i ≤ length text → (i ≤ j) × (j ≤ length text)
+  within p le = let x = grown_from p le in (x.2, x.3)
+
+  pub in_order : {e : Expression} {i j : ℕ} {m : List Node} → Derives rules text e i j m → i ≤ length text → Stand i j m
+  in_order (sees eq) le = ends_before (within (sees eq) le).0
+  in_order (joins p q) le = stand_append (in_order p le) (in_order q (within p le).1)
+  in_order (takes p) le = in_order p le
+  in_order (turns_to p q) le = in_order q le
+  in_order (repeats p lt q) le = stand_append (in_order p le) (in_order q (within p le).1)
+  in_order (idles p) le = ends_before (omega arith)
+  in_order (stops p) le = ends_before (omega arith)
+  in_order (misses p) le = ends_before (omega arith)
+  in_order (passes p eq) le = in_order p le
+  in_order (leaves_none p) le = ends_before (within (leaves_none p) le).0
+  in_order (stands {r} {i} {j} {n} p) le = node_stands r i j n (within p le).0 (in_order p le)
+
+  pub nodes_stand : (e : Expression) (i j : ℕ) (m : List Node) → i ≤ length text → Derives rules text e i j m → Stand i j m × (j ≤ length text)
+  nodes_stand e i j m le p = (in_order p le, (within p le).1)
 
   -- What a rule is made of, grown one level down, makes its derivation.
   pub derivation_end : (d r i j h : ℕ) (e : Expression) (m : List Node) → i ≤ length text → 0 < d → e ≡ rule_of rules r → End j h m ≡ grown rules text (d - 1) e i → h ≤ d - 1 → Derivation rules text r i d (Ok (Some (node r i j m)))

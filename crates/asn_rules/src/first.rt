@@ -10,6 +10,13 @@ ghost use Rattle.asn_rules.specs.First.{first};
 
 use crate::expression::Expression::{Call, Guarded, Many, Not};
 use crate::expression::{ByteClass, Expression, Guard, Sight};
+use crate::names::{
+    ASN_MODULE, ASN1_TYPE, ASN1_VALUE, ASSIGNMENT, BOOLEAN, COMPONENT_LIST, CONSTRAINT, DEFINITION,
+    DIGITS, ELSEWHERE_DECLARED_TYPE, END, ENVIRONMENTS, IDENTIFIER, INTEGER, INTEGER_VALUE,
+    MODULE_REFERENCE, NAME_TAIL, NUMBER_I128, RANGE_SEPERATOR, SEQUENCE, SEQUENCE_COMPONENT,
+    SEQUENCE_OR_SET_MEMBER, SP, STRUCT_BODY, TAG_DEFAULT, TITLE_CASE_IDENTIFIER,
+    TOP_LEVEL_TYPE_DECLARATION, VALUE_RANGE,
+};
 
 macro_rules! seq {
     ($a:expr) => { $a };
@@ -45,10 +52,10 @@ macro_rules! some {
     ($a:expr) => { Expression::Sequence(&$a, &Expression::Many(&$a)) };
 }
 
-const SP: Expression = Expression::Call(1);
+const BLANKS: Expression = Expression::Call(SP);
 
 // The blanks before a literal: no reader needs them.
-const GAP: Expression = Expression::Skip(1);
+const GAP: Expression = Expression::Skip(SP);
 
 const EMPTY: Expression = Expression::See(Sight::Bytes(b""));
 
@@ -79,14 +86,14 @@ static RULE_1: Expression = Many(&BLANK);
 // 7 name_tail = (alnum / `-` alnum)*
 static RULE_7: Expression = Many(&choice!(ALNUM, seq!(bytes!(b"-"), ALNUM)));
 // 8 identifier = sp letter name_tail
-static RULE_8: Expression = seq!(SP, LETTER, Call(7));
+static RULE_8: Expression = seq!(BLANKS, LETTER, Call(NAME_TAIL));
 // 9 title_case_identifier = sp cap name_tail {no keyword}
-static RULE_9: Expression = Guarded(&seq!(SP, CAP, Call(7)), Guard::NoKeyword);
+static RULE_9: Expression = Guarded(&seq!(BLANKS, CAP, Call(NAME_TAIL)), Guard::NoKeyword);
 // 14 digits = digit+
 static RULE_14: Expression = some!(DIGIT);
 // 17 number_i128 = sp `-`? sp digits {fits i128}
 static RULE_17: Expression = Guarded(
-    &seq!(SP, option!(bytes!(b"-")), SP, Call(14)),
+    &seq!(BLANKS, option!(bytes!(b"-")), BLANKS, Call(DIGITS)),
     Guard::FitsI128,
 );
 // 20 range_seperator = ".."
@@ -94,59 +101,71 @@ static RULE_20: Expression = symbol!(b"..");
 // 22 assignment = "::="
 static RULE_22: Expression = symbol!(b"::=");
 // 44 integer_value = number_i128
-static RULE_44: Expression = Call(17);
+static RULE_44: Expression = Call(NUMBER_I128);
 // 53 asn1_value = integer_value
-static RULE_53: Expression = Call(44);
+static RULE_53: Expression = Call(INTEGER_VALUE);
 // 60 sequence = 'SEQUENCE' struct_body
-static RULE_60: Expression = seq!(keyword!(b"SEQUENCE"), Call(62));
+static RULE_60: Expression = seq!(keyword!(b"SEQUENCE"), Call(STRUCT_BODY));
 // 62 struct_body = "{" component_list "}"
-static RULE_62: Expression = seq!(symbol!(b"{"), Call(64), symbol!(b"}"));
+static RULE_62: Expression = seq!(symbol!(b"{"), Call(COMPONENT_LIST), symbol!(b"}"));
 // 64 component_list = (sequence_component ","?)*
-static RULE_64: Expression = Many(&seq!(Call(69), option!(symbol!(b","))));
+static RULE_64: Expression = Many(&seq!(Call(SEQUENCE_COMPONENT), option!(symbol!(b","))));
 // 69 sequence_component = sequence_or_set_member
-static RULE_69: Expression = Call(70);
+static RULE_69: Expression = Call(SEQUENCE_OR_SET_MEMBER);
 // 70 sequence_or_set_member = identifier asn1_type
-static RULE_70: Expression = seq!(Call(8), Call(101));
+static RULE_70: Expression = seq!(Call(IDENTIFIER), Call(ASN1_TYPE));
 // 85 integer = 'INTEGER' constraint?
-static RULE_85: Expression = seq!(keyword!(b"INTEGER"), option!(Call(102)));
+static RULE_85: Expression = seq!(keyword!(b"INTEGER"), option!(Call(CONSTRAINT)));
 // 93 boolean = 'BOOLEAN'
 static RULE_93: Expression = keyword!(b"BOOLEAN");
 // 100 elsewhere_declared_type = title_case_identifier
-static RULE_100: Expression = Call(9);
+static RULE_100: Expression = Call(TITLE_CASE_IDENTIFIER);
 // 101 asn1_type = sequence / integer / boolean / elsewhere_declared_type
-static RULE_101: Expression = choice!(Call(60), Call(85), Call(93), Call(100));
+static RULE_101: Expression = choice!(
+    Call(SEQUENCE),
+    Call(INTEGER),
+    Call(BOOLEAN),
+    Call(ELSEWHERE_DECLARED_TYPE)
+);
 // 102 constraint = "(" value_range ")"
-static RULE_102: Expression = seq!(symbol!(b"("), Call(133), symbol!(b")"));
+static RULE_102: Expression = seq!(symbol!(b"("), Call(VALUE_RANGE), symbol!(b")"));
 // 133 value_range = asn1_value range_seperator asn1_value {the first is at most the second}
-static RULE_133: Expression = Guarded(&seq!(Call(53), Call(20), Call(53)), Guard::IsOrdered);
+static RULE_133: Expression = Guarded(
+    &seq!(Call(ASN1_VALUE), Call(RANGE_SEPERATOR), Call(ASN1_VALUE)),
+    Guard::IsOrdered,
+);
 // 166 tag_default = words(AUTOMATIC, IMPLICIT, EXPLICIT) 'TAGS'
 static RULE_166: Expression = seq!(
     seq!(
-        SP,
+        BLANKS,
         choice!(word!(b"AUTOMATIC"), word!(b"IMPLICIT"), word!(b"EXPLICIT"))
     ),
     keyword!(b"TAGS")
 );
 // 167 environments = tag_default?
-static RULE_167: Expression = option!(Call(166));
+static RULE_167: Expression = option!(Call(TAG_DEFAULT));
 // 176 module_reference = identifier 'DEFINITIONS' environments assignment 'BEGIN'
 static RULE_176: Expression = seq!(
-    Call(8),
+    Call(IDENTIFIER),
     keyword!(b"DEFINITIONS"),
-    Call(167),
-    Call(22),
+    Call(ENVIRONMENTS),
+    Call(ASSIGNMENT),
     keyword!(b"BEGIN")
 );
 // 179 end = 'END'
 static RULE_179: Expression = keyword!(b"END");
 // 185 top_level_type_declaration = title_case_identifier assignment (sequence / integer / boolean)
-static RULE_185: Expression = seq!(Call(9), Call(22), choice!(Call(60), Call(85), Call(93)));
+static RULE_185: Expression = seq!(
+    Call(TITLE_CASE_IDENTIFIER),
+    Call(ASSIGNMENT),
+    choice!(Call(SEQUENCE), Call(INTEGER), Call(BOOLEAN))
+);
 // 188 definition = top_level_type_declaration
-static RULE_188: Expression = Call(185);
+static RULE_188: Expression = Call(TOP_LEVEL_TYPE_DECLARATION);
 // 189 asn_module = module_reference definition* end
-static RULE_189: Expression = seq!(Call(176), Many(&Call(188)), Call(179));
+static RULE_189: Expression = seq!(Call(MODULE_REFERENCE), Many(&Call(DEFINITION)), Call(END));
 // 190 asn_spec = asn_module+ sp !any
-static RULE_190: Expression = seq!(some!(Call(189)), SP, Not(&ANY));
+static RULE_190: Expression = seq!(some!(Call(ASN_MODULE)), BLANKS, Not(&ANY));
 
 /// The expression of a rule; of a number that is no rule's, one that fails everywhere.
 #[tactic(auto, unfolding(crate::specs::First::first))]

@@ -20,5 +20,8 @@ pub use expression::{ByteClass, Expression, Guard, Sight};
 pub use grammar::{Grammar, rule_expression};
 pub use guards::{ASN1_KEYWORDS, is_keyword, whole_number};
 pub use node::Node;
-pub use rules::{RuleId, derive_rule, one_outcome, one_tree, try_rule};
+pub use rules::{RuleId, derive_rule, nodes_stand, one_outcome, one_tree, try_rule};
 pub use run::{MatchFault, Outcome};
+
+#[cfg(test)]
+mod tests;

@@ -7,7 +7,7 @@ ghost use Rattle.asn_rules.specs.Expression.{rule as rule_call};
 ghost use Rattle.asn_rules.specs.Runs.{ExactlyOne};
 ghost use Rattle.asn_rules.specs.Answer.{Answers};
 ghost use Rattle.asn_rules.specs.Grammar.{rules_of};
-ghost use Rattle.asn_rules.specs.Derives.{OneTree};
+ghost use Rattle.asn_rules.specs.Derives.{Derives, OneTree, Stand};
 ghost use Rattle.asn_rules.specs.Grown.{Derivation};
 
 use crate::derive::{Growth, grow};
@@ -103,4 +103,9 @@ pub fn one_outcome()
 /// A rule ends exactly where it has a tree, and it has one tree.
 pub fn one_tree()
     ensures { (grammar : Grammar) (text : List ℕ) (number offset : ℕ) → offset ≤ length text → OneTree (rules_of grammar) text (rule_call number) offset }
+{}
+
+/// The nodes of a tree stand one behind the other, the children of each within it, and all within the text.
+pub fn nodes_stand()
+    ensures { (grammar : Grammar) (text : List ℕ) (number i j : ℕ) (nodes : List Node) → i ≤ length text → Derives (rules_of grammar) text (rule_call number) i j nodes → Stand i j nodes × (j ≤ length text) }
 {}
