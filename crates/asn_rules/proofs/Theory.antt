@@ -6,10 +6,12 @@ use Rattle.std.proofs.lemmas.Slice.Eq.{starts_is}
 use Rattle.std.proofs.lemmas.Bool.Decides.{Decides-eqb, Decides-ltb, nat_tests}
 use Rattle.std.proofs.lemmas.Bool.{cases_lt}
 use Rattle.std.specs.Ordering.{ord_max, nat_cmp}
-use Rattle.asn_rules.specs.Expression.{Expression, see, seq, choice, many, never, guarded, rule, Sight, bytes, word, one_of, rule_of}
-use Rattle.asn_rules.specs.Runs.{Ending, ends, fails, stands, width, word_ends, seen, allows, judged, Runs, sees, seq_ends, seq_fails, choice_first, choice_second, many_turn, many_idle, many_fails, never_ends, never_fails, guard_judges, guard_fails, calls}
+use Rattle.asn_rules.specs.Expression.{Expression, see, seq, choice, many, never, guarded, rule, skip, Sight, bytes, word, one_of, rule_of}
+use Rattle.asn_rules.specs.Lexical.{stands, width, word_ends}
+use Rattle.asn_rules.specs.Guards.{allows}
+use Rattle.asn_rules.specs.Runs.{Ending, ends, fails, seen, judged, Runs, sees, seq_ends, seq_fails, choice_first, choice_second, many_turn, many_idle, many_fails, never_ends, never_fails, guard_judges, guard_fails, calls, skips}
 use Rattle.asn_rules.specs.Answer.{Answer, at_height, raised, raise, one_more, higher, then_from, or_else, turned, judge, turn, turns, expr_answer, call_answer, answer, IsWithin, Answers, height_of}
-use Rattle.asn_rules.specs.declared.expr.Guard.{Guard}
+use Rattle.asn_rules.specs.declared.expression.Guard.{Guard}
 use Rattle.asn_rules.specs.declared.run.Outcome.{Outcome}
 use Rattle.asn_rules.specs.declared.run.Outcome.TheVariants.{End, Fail}
 use Rattle.asn_rules.specs.declared.run.MatchFault.{MatchFault}
@@ -71,6 +73,7 @@ module _ (rules : List Expression) (text : List ℕ) where
   runs_lies (guard_judges {g = g} {i = i} {j = j} p) le = let a = runs_lies p le in judged_lies g i j a.0 a.1
   runs_lies (guard_fails p) le = tt
   runs_lies (calls p) le = runs_lies p le
+  runs_lies (skips p) le = runs_lies p le
 
   -- What is answered is so.
   abbrev pub Sound : Expression → ℕ → Answer → Type 0
@@ -141,22 +144,27 @@ module _ (rules : List Expression) (text : List ℕ) where
   turns_sound a step f zero i le = tt
   turns_sound a step f (suc n) i le = turn_sound a i (step i) (turns step n) le (f i le) (turns_sound a step f n)
 
-  expr_sound : (call : ℕ → ℕ → Answer) → ((r : ℕ) → AllSound (rule r) (call r)) → (e : Expression) → AllSound e (expr_answer call text e)
+  -- of a call, and of one that leaves no node
+  abbrev CallSound : ℕ → (ℕ → Answer) → Type 0
+  CallSound r f = (i : ℕ) → i ≤ length text → Sound (rule r) i (f i) × Sound (skip r) i (f i)
+
+  expr_sound : (call : ℕ → ℕ → Answer) → ((r : ℕ) → CallSound r (call r)) → (e : Expression) → AllSound e (expr_answer call text e)
   expr_sound call f (see s) i le = see_sound s i (seen text s i) refl
   expr_sound call f (seq a b) i le = seq_sound a b i (expr_answer call text a i) (expr_answer call text b) le (expr_sound call f a i le) (expr_sound call f b)
   expr_sound call f (choice a b) i le = choice_sound a b i (expr_answer call text a i) (expr_answer call text b i) (expr_sound call f a i le) (expr_sound call f b i le)
   expr_sound call f (many a) i le = turns_sound a (expr_answer call text a) (expr_sound call f a) (suc (length text - i)) i le
   expr_sound call f (never a) i le = turned_sound a i (expr_answer call text a i) (expr_sound call f a i le)
   expr_sound call f (guarded a g) i le = judge_sound a g i (expr_answer call text a i) (expr_sound call f a i le)
-  expr_sound call f (rule r) i le = f r i le
+  expr_sound call f (rule r) i le = (f r i le).0
+  expr_sound call f (skip r) i le = (f r i le).1
 
-  higher_sound : (r i : ℕ) (x : Answer) → Sound (rule_of rules r) i x → Sound (rule r) i (higher x)
-  higher_sound r i (Ok (End j h)) p = calls p
-  higher_sound r i (Ok (Fail h)) p = calls p
-  higher_sound r i (Err f) p = tt
+  higher_sound : (r i : ℕ) (x : Answer) → Sound (rule_of rules r) i x → Sound (rule r) i (higher x) × Sound (skip r) i (higher x)
+  higher_sound r i (Ok (End j h)) p = (calls p, skips p)
+  higher_sound r i (Ok (Fail h)) p = (calls p, skips p)
+  higher_sound r i (Err f) p = (tt, tt)
 
-  call_sound : (d r : ℕ) → AllSound (rule r) (call_answer rules text d r)
-  call_sound zero r i le = tt
+  call_sound : (d r : ℕ) → CallSound r (call_answer rules text d r)
+  call_sound zero r i le = (tt, tt)
   call_sound (suc d) r i le = higher_sound r i (expr_answer (call_answer rules text d) text (rule_of rules r) i) (expr_sound (call_answer rules text d) (call_sound d) (rule_of rules r) i le)
 
   pub sound : (d : ℕ) (e : Expression) → AllSound e (answer rules text d e)
@@ -227,6 +235,8 @@ module _ (rules : List Expression) (text : List ℕ) where
   complete (guard_fails {g = g} {i = i} p) le d hd = ap (judge text g i) (complete p le d hd)
   complete (calls p) le zero hd = absurd (omega arith)
   complete (calls {h = h} {o = o} p) le (suc d) hd = ap higher (complete p le d (omega arith)) ∙ ap Ok (one_more_at h o)
+  complete (skips p) le zero hd = absurd (omega arith)
+  complete (skips {h = h} {o = o} p) le (suc d) hd = ap higher (complete p le d (omega arith)) ∙ ap Ok (one_more_at h o)
 
   -- An expression has one outcome and one height.
   pub one_outcome : (e : Expression) (i : ℕ) (o o' : Ending) (h h' : ℕ) → i ≤ length text → Runs rules text e i o h → Runs rules text e i o' h' → (o ≡ o') × (h ≡ h')
@@ -318,6 +328,7 @@ module _ (rules : List Expression) (text : List ℕ) where
   low_expr d call f (never a) i = low_turned d i (expr_answer call text a i) (low_expr d call f a i)
   low_expr d call f (guarded a g) i = low_judge d i g (expr_answer call text a i) (low_expr d call f a i)
   low_expr d call f (rule r) i = f r i
+  low_expr d call f (skip r) i = f r i
 
   low_higher : (d : ℕ) (x : Answer) → Low d x → Low (suc d) (higher x)
   low_higher d (Ok (End j h)) a = omega arith

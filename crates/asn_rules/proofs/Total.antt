@@ -3,9 +3,11 @@ use Rattle.std.proofs.Common.{◌≡◌, ℕ, zero, suc, ◌+◌, ◌-◌, ◌<�
 use Rattle.std.specs.Prelude.{nat_lt, ◌&&◌, ◌||◌, not, if◌then◌else◌, slice_range}
 use Rattle.std.proofs.lemmas.Bool.{cases_lt}
 use Rattle.std.proofs.lemmas.Bool.Decides.{Decides-ltb}
-use Rattle.asn_rules.specs.Expression.{Expression, see, seq, choice, many, never, guarded, rule, Sight, rule_of}
-use Rattle.asn_rules.specs.Runs.{Ending, ends, fails, stands, width, seen, judged, allows, Runs, sees, seq_ends, seq_fails, choice_first, choice_second, many_turn, many_idle, many_fails, never_ends, never_fails, guard_judges, guard_fails, calls, ExactlyOne}
-use Rattle.asn_rules.specs.declared.expr.Guard.{Guard}
+use Rattle.asn_rules.specs.Expression.{Expression, see, seq, choice, many, never, guarded, rule, skip, Sight, rule_of}
+use Rattle.asn_rules.specs.Lexical.{stands, width}
+use Rattle.asn_rules.specs.Guards.{allows}
+use Rattle.asn_rules.specs.Runs.{Ending, ends, fails, seen, judged, Runs, sees, seq_ends, seq_fails, choice_first, choice_second, many_turn, many_idle, many_fails, never_ends, never_fails, guard_judges, guard_fails, calls, skips, ExactlyOne}
+use Rattle.asn_rules.specs.declared.expression.Guard.{Guard}
 use Rattle.asn_rules.proofs.Theory.{Lies, runs_lies, one_outcome}
 
 -- each end of the expression takes a byte, where each end of the rules in the table does
@@ -17,6 +19,7 @@ takes_byte t (many a) = false
 takes_byte t (never a) = false
 takes_byte t (guarded a g) = takes_byte t a
 takes_byte t (rule r) = get_or t r false
+takes_byte t (skip r) = get_or t r false
 
 -- each rule that the expression calls before it has taken a byte ranks below k
 abbrev ranks_below : List Bool → List ℕ → ℕ → Expression → Bool
@@ -27,6 +30,7 @@ ranks_below t ranks k (many a) = ranks_below t ranks k a
 ranks_below t ranks k (never a) = ranks_below t ranks k a
 ranks_below t ranks k (guarded a g) = ranks_below t ranks k a
 ranks_below t ranks k (rule r) = nat_lt (get_or ranks r 0) k
+ranks_below t ranks k (skip r) = nat_lt (get_or ranks r 0) k
 
 -- both tables are right
 abbrev pub checked : List Bool → List ℕ → List Expression → List Bool → List ℕ → Bool
@@ -112,6 +116,7 @@ module _ (rules : List Expression) (text : List ℕ) (t : List Bool) (ranks : Li
   moves (guard_judges {g = g} {i = i} {j = j} p) le m = judge_moves g i j (moves p le m)
   moves (guard_fails p) le m = tt
   moves (calls {r = r} p) le m = moves p le ((row r).0 m)
+  moves (skips {r = r} p) le m = moves p le ((row r).0 m)
 
   -- It comes to something.
   abbrev Comes : Expression → ℕ → Type 0
@@ -129,6 +134,7 @@ module _ (rules : List Expression) (text : List ℕ) (t : List Bool) (ranks : Li
   Ready P (never a) = Ready P a
   Ready P (guarded a g) = Ready P a
   Ready P (rule r) = P r
+  Ready P (skip r) = P r
 
   ready : (P : ℕ → Type 0) (k : ℕ) → ((s : ℕ) → get_or ranks s 0 < k → P s) → (e : Expression) → ranks_below t ranks k e ≡ true → Ready P e
   ready P k f (see s) m = tt
@@ -142,6 +148,7 @@ module _ (rules : List Expression) (text : List ℕ) (t : List Bool) (ranks : Li
   ready P k f (never a) m = ready P k f a m
   ready P k f (guarded a g) m = ready P k f a m
   ready P k f (rule r) m = f r ((Decides-ltb (get_or ranks r 0) k).0 m)
+  ready P k f (skip r) m = f r ((Decides-ltb (get_or ranks r 0) k).0 m)
 
   all_ready : (P : ℕ → Type 0) → ((r : ℕ) → P r) → (e : Expression) → Ready P e
   all_ready P f (see s) = tt
@@ -151,6 +158,7 @@ module _ (rules : List Expression) (text : List ℕ) (t : List Bool) (ranks : Li
   all_ready P f (never a) = all_ready P f a
   all_ready P f (guarded a g) = all_ready P f a
   all_ready P f (rule r) = f r
+  all_ready P f (skip r) = f r
 
   seq_comes : (a b : Expression) (i : ℕ) → i ≤ length text → Later i → Comes a i → ((takes_byte t a ≡ true) ⊎ Comes b i) → Comes (seq a b) i
   seq_comes a b i le later (fails, k, p) rest = (fails, k, seq_fails p)
@@ -190,27 +198,27 @@ module _ (rules : List Expression) (text : List ℕ) (t : List Bool) (ranks : Li
   guard_comes a g i (ends j, k, p) = (judged text g i j, k, guard_judges p)
   guard_comes a g i (fails, k, p) = (fails, k, guard_fails p)
 
-  comes : (i : ℕ) → i ≤ length text → Later i → (e : Expression) → Ready (λ r. Comes (rule r) i) e → Comes e i
+  comes : (i : ℕ) → i ≤ length text → Later i → (e : Expression) → Ready (λ r. Comes (rule_of rules r) i) e → Comes e i
   comes i le later (see s) ok = (seen text s i, 0, sees)
   comes i le later (seq a b) ok = seq_comes a b i le later (comes i le later a ok.0) (elim ok.1 [ inl m ↦ inl m | inr r ↦ inr (comes i le later b r) ])
   comes i le later (choice a b) ok = choice_comes a b i (comes i le later a ok.0) (comes i le later b ok.1)
   comes i le later (many a) ok = many_comes a i le later (comes i le later a ok)
   comes i le later (never a) ok = never_comes a i (comes i le later a ok)
   comes i le later (guarded a g) ok = guard_comes a g i (comes i le later a ok)
-  comes i le later (rule r) ok = ok
+  comes i le later (rule r) ok = (ok.0, ok.1 + 1, calls ok.2)
+  comes i le later (skip r) ok = (ok.0, ok.1 + 1, skips ok.2)
 
-  by_rank : (k i : ℕ) → i ≤ length text → Later i → (r : ℕ) → get_or ranks r 0 < k → Comes (rule r) i
+  by_rank : (k i : ℕ) → i ≤ length text → Later i → (r : ℕ) → get_or ranks r 0 < k → Comes (rule_of rules r) i
   by_rank zero i le later r lt = absurd (omega arith)
   by_rank (suc k) i le later r lt =
-      let below : ((s : ℕ) → get_or ranks s 0 < get_or ranks r 0 → Comes (rule s) i) = λ s less. by_rank k i le later s (omega arith) in
-      let c = comes i le later (rule_of rules r) (ready (λ s. Comes (rule s) i) (get_or ranks r 0) below (rule_of rules r) (row r).1) in
-      (c.0, c.1 + 1, calls c.2)
+      let below : ((s : ℕ) → get_or ranks s 0 < get_or ranks r 0 → Comes (rule_of rules s) i) = λ s less. by_rank k i le later s (omega arith) in
+      comes i le later (rule_of rules r) (ready (λ s. Comes (rule_of rules s) i) (get_or ranks r 0) below (rule_of rules r) (row r).1)
 
   all_come : (n i : ℕ) → i ≤ length text → length text - i < n → (e : Expression) → Comes e i
   all_come zero i le lt e = absurd (omega arith)
   all_come (suc n) i le lt e =
       let later : Later i = λ j less le'. all_come n j le' (omega arith) in
-      comes i le later e (all_ready (λ r. Comes (rule r) i) (λ r. by_rank (suc (get_or ranks r 0)) i le later r (omega arith)) e)
+      comes i le later e (all_ready (λ r. Comes (rule_of rules r) i) (λ r. by_rank (suc (get_or ranks r 0)) i le later r (omega arith)) e)
 
   pub exactly_one : (e : Expression) (i : ℕ) → i ≤ length text → ExactlyOne rules text e i
   exactly_one e i le = record { one = all_come (suc (length text - i)) i le (omega arith) e; only = λ o o' h h' p q. one_outcome rules text e i o o' h h' le p q }

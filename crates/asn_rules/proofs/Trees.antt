@@ -2,18 +2,37 @@
 use Rattle.std.proofs.Common.{◌≡◌, ℕ, zero, suc, ◌+◌, ◌-◌, ◌<◌, ◌≤◌, max, List, [], ◌∷◌, ◌++◌, Bool, true, false, Some, None, Ok, Err, length, refl, sym, ap, ◌∙◌, subst, arith, append_assoc}
 use Rattle.std.specs.Prelude.{nat_lt, if◌then◌else◌, slice_range}
 use Rattle.std.proofs.lemmas.Bool.Decides.{Decides-ltb, nat_tests}
-use Rattle.asn_rules.specs.Expression.{Expression, see, seq, choice, many, never, guarded, rule, Sight, rule_of}
-use Rattle.asn_rules.specs.Runs.{Ending, ends, fails, seen, judged, allows, Runs, seq_ends, seq_fails, choice_first, choice_second, many_turn, many_idle, many_fails, never_ends, never_fails, guard_judges, guard_fails, calls}
+use Rattle.asn_rules.specs.Expression.{Expression, see, seq, choice, many, never, guarded, rule, skip, Sight, rule_of}
+use Rattle.asn_rules.specs.Guards.{allows}
+use Rattle.asn_rules.specs.Runs.{Ending, ends, fails, seen, judged, Runs, seq_ends, seq_fails, choice_first, choice_second, many_turn, many_idle, many_fails, never_ends, never_fails, guard_judges, guard_fails, calls, skips}
 use Rattle.asn_rules.specs.Runs as runs
 use Rattle.asn_rules.specs.Answer.{Answer, at_height, raise, higher, then_from, or_else, turned, judge, turn, turns, expr_answer, call_answer, answer}
-use Rattle.asn_rules.specs.Derives.{Derives, OneTree, node, sees, joins, takes, turns_to, repeats, idles, stops, misses, passes, stands}
-use Rattle.asn_rules.specs.Grown.{bare, after, then_grow, else_grow, turn_growth, kept, judge_growth, grow_turn, grow_turns, expr_growth, topped, call_growth, grown, plain, Derivation}
-use Rattle.asn_rules.specs.declared.expr.Guard.{Guard}
+use Rattle.asn_rules.specs.Derives.{Derives, OneTree, node, sees, joins, takes, turns_to, repeats, idles, stops, misses, passes, stands, leaves_none, Stand, ends_before, one_more}
+use Rattle.asn_rules.specs.Grown.{leafless, without_nodes, of_outcome, after, then_grow, else_grow, turn_growth, kept, judge_growth, grow_turn, grow_turns, expr_growth, topped, call_growth, grown, plain, Derivation}
+use Rattle.asn_rules.specs.declared.expression.Guard.{Guard}
 use Rattle.asn_rules.specs.declared.node.Node.{Node}
+use Rattle.asn_rules.specs.declared.node.Node.TheOpen.{Node-F}
+use Rattle.asn_rules.specs.declared.node.Node.TheViews.{out-Node, out-roll-Node}
 use Rattle.asn_rules.specs.declared.run.MatchFault.TheVariants as fault
 use Rattle.asn_rules.specs.declared.derive.Growth.{Growth}
 use Rattle.asn_rules.specs.declared.derive.Growth.TheVariants.{End, Fail, TooDeep}
 use Rattle.asn_rules.proofs.Theory.{runs_lies, complete, too_deep}
+
+opened_stand : (b k : ℕ) (n : Node) (ns : List Node) (x : Node-F Node) → out-Node n ≡ x → b ≤ x.start → x.start ≤ x.end → Stand x.start x.end x.children → Stand x.end k ns → Stand b k (n ∷ ns)
+opened_stand b k n ns x e = subst (λ x. b ≤ x.start → x.start ≤ x.end → Stand x.start x.end x.children → Stand x.end k ns → Stand b k (n ∷ ns)) e (λ p q s t. one_more p q s t)
+
+node_stands : (r i j : ℕ) (m : List Node) → i ≤ j → Stand i j m → Stand i j (node r i j m ∷ [])
+node_stands r i j m le s =
+    let x : Node-F Node = record { rule = r; start = i; end = j; children = m } in
+    opened_stand i j (node r i j m) [] x (out-roll-Node x) (omega arith) le s (ends_before (omega arith))
+
+stand_from : {i j k : ℕ} {n : List Node} → i ≤ j → Stand j k n → Stand i k n
+stand_from le (ends_before l) = ends_before (omega arith)
+stand_from le (one_more l w m n) = one_more (omega arith) w m n
+
+stand_append : {i j k : ℕ} {m n : List Node} → Stand i j m → Stand j k n → Stand i k (m ++ n)
+stand_append (ends_before l) t = stand_from l t
+stand_append (one_more l w m n) t = one_more l w m (stand_append n t)
 
 module _ (rules : List Expression) (text : List ℕ) where
   -- What is grown stands, and what fails fails.
@@ -25,7 +44,7 @@ module _ (rules : List Expression) (text : List ℕ) where
   abbrev AllGrow : Expression → (ℕ → Growth) → Type 0
   AllGrow e f = (i : ℕ) → i ≤ length text → Grows e i (f i)
 
-  see_grows : (s : Sight) (i : ℕ) (o : Ending) → seen text s i ≡ o → Grows (see s) i (bare o 0)
+  see_grows : (s : Sight) (i : ℕ) (o : Ending) → seen text s i ≡ o → Grows (see s) i (leafless o 0)
   see_grows s i (ends j) e = (subst (λ o. Runs rules text (see s) i o 0) e runs.sees, sees e)
   see_grows s i fails e = subst (λ o. Runs rules text (see s) i o 0) e runs.sees
 
@@ -89,31 +108,36 @@ module _ (rules : List Expression) (text : List ℕ) where
   turns_grow a step f zero i le = tt
   turns_grow a step f (suc n) i le = turn_grows a i (step i) (grow_turns step n) le (f i le) (turns_grow a step f n)
 
-  expr_grows : (call : ℕ → ℕ → Growth) → ((r : ℕ) → AllGrow (rule r) (call r)) → (e : Expression) → AllGrow e (expr_growth call text e)
+  -- of a call, and of one that leaves no node
+  abbrev CallGrows : ℕ → (ℕ → Growth) → Type 0
+  CallGrows r f = (i : ℕ) → i ≤ length text → Grows (rule r) i (f i) × Grows (skip r) i (without_nodes (f i))
+
+  expr_grows : (call : ℕ → ℕ → Growth) → ((r : ℕ) → CallGrows r (call r)) → (e : Expression) → AllGrow e (expr_growth call text e)
   expr_grows call f (see s) i le = see_grows s i (seen text s i) refl
   expr_grows call f (seq a b) i le = seq_grows a b i (expr_growth call text a i) (expr_growth call text b) le (expr_grows call f a i le) (expr_grows call f b)
   expr_grows call f (choice a b) i le = choice_grows a b i (expr_growth call text a i) (expr_growth call text b i) (expr_grows call f a i le) (expr_grows call f b i le)
   expr_grows call f (many a) i le = turns_grow a (expr_growth call text a) (expr_grows call f a) (suc (length text - i)) i le
   expr_grows call f (never a) i le = never_grows a i (expr_growth call text a i) (expr_grows call f a i le)
   expr_grows call f (guarded a g) i le = judge_grows a g i (expr_growth call text a i) (expr_grows call f a i le)
-  expr_grows call f (rule r) i le = f r i le
+  expr_grows call f (rule r) i le = (f r i le).0
+  expr_grows call f (skip r) i le = (f r i le).1
 
-  topped_grows : (r i : ℕ) (x : Growth) → Grows (rule_of rules r) i x → Grows (rule r) i (topped r i x)
-  topped_grows r i (End j h m) p = (calls p.0, stands p.1)
-  topped_grows r i (Fail h) p = calls p
-  topped_grows r i TooDeep p = tt
+  topped_grows : (r i : ℕ) (x : Growth) → Grows (rule_of rules r) i x → Grows (rule r) i (topped r i x) × Grows (skip r) i (without_nodes (topped r i x))
+  topped_grows r i (End j h m) p = ((calls p.0, stands p.1), (skips p.0, leaves_none (skips p.0)))
+  topped_grows r i (Fail h) p = (calls p, skips p)
+  topped_grows r i TooDeep p = (tt, tt)
 
-  call_grows : (d r : ℕ) → AllGrow (rule r) (call_growth rules text d r)
-  call_grows zero r i le = tt
+  call_grows : (d r : ℕ) → CallGrows r (call_growth rules text d r)
+  call_grows zero r i le = (tt, tt)
   call_grows (suc d) r i le = topped_grows r i (expr_growth (call_growth rules text d) text (rule_of rules r) i) (expr_grows (call_growth rules text d) (call_grows d) (rule_of rules r) i le)
 
   pub grows : (d : ℕ) (e : Expression) → AllGrow e (grown rules text d e)
   grows d = expr_grows (call_growth rules text d) (call_grows d)
 
   -- Without its nodes it is what is answered.
-  plain_bare : (o : Ending) (h : ℕ) → plain (bare o h) ≡ Ok (at_height o h)
-  plain_bare (ends j) h = refl
-  plain_bare fails h = refl
+  plain_leafless : (o : Ending) (h : ℕ) → plain (leafless o h) ≡ Ok (at_height o h)
+  plain_leafless (ends j) h = refl
+  plain_leafless fails h = refl
 
   plain_after : (h : ℕ) (m : List Node) (x : Growth) → plain (after h m x) ≡ raise h (plain x)
   plain_after h m (End j k n) = refl
@@ -157,8 +181,13 @@ module _ (rules : List Expression) (text : List ℕ) where
   plain_turns step step' f zero i = refl
   plain_turns step step' f (suc n) i = plain_turn i (step i) (grow_turns step n) (turns step' n) (plain_turns step step' f n) ∙ ap (λ x. turn i x (turns step' n)) (f i)
 
+  plain_without : (x : Growth) → plain (without_nodes x) ≡ plain x
+  plain_without (End j h m) = refl
+  plain_without (Fail h) = refl
+  plain_without TooDeep = refl
+
   plain_expr : (call : ℕ → ℕ → Growth) (call' : ℕ → ℕ → Answer) → ((r j : ℕ) → plain (call r j) ≡ call' r j) → (e : Expression) (i : ℕ) → plain (expr_growth call text e i) ≡ expr_answer call' text e i
-  plain_expr call call' f (see s) i = plain_bare (seen text s i) 0
+  plain_expr call call' f (see s) i = plain_leafless (seen text s i) 0
   plain_expr call call' f (seq a b) i =
       plain_then (expr_growth call text a i) (expr_growth call text b) (expr_answer call' text b) (plain_expr call call' f b)
       ∙ ap (λ x. then_from x (expr_answer call' text b)) (plain_expr call call' f a i)
@@ -170,6 +199,7 @@ module _ (rules : List Expression) (text : List ℕ) where
   plain_expr call call' f (never a) i = plain_turned i (expr_growth call text a i) ∙ ap (turned i) (plain_expr call call' f a i)
   plain_expr call call' f (guarded a g) i = plain_judged g i (expr_growth call text a i) ∙ ap (judge text g i) (plain_expr call call' f a i)
   plain_expr call call' f (rule r) i = f r i
+  plain_expr call call' f (skip r) i = plain_without (call r i) ∙ f r i
 
   plain_topped : (r i : ℕ) (x : Growth) → plain (topped r i x) ≡ higher (plain x)
   plain_topped r i (End j h m) = refl
@@ -184,6 +214,15 @@ module _ (rules : List Expression) (text : List ℕ) where
 
   pub plain_grown : (d : ℕ) (e : Expression) (i : ℕ) → plain (grown rules text d e i) ≡ answer rules text d e i
   plain_grown d = plain_expr (call_growth rules text d) (call_answer rules text d) (plain_call d)
+
+  without_is : (x : Growth) → without_nodes x ≡ of_outcome (plain x)
+  without_is (End j h m) = refl
+  without_is (Fail h) = refl
+  without_is TooDeep = refl
+
+  -- A call that leaves no node grows what it answers.
+  pub skip_grown : (d r i : ℕ) → grown rules text d (skip r) i ≡ of_outcome (answer rules text d (rule r) i)
+  skip_grown d r i = without_is (call_growth rules text d r i) ∙ ap of_outcome (plain_call d r i)
 
   -- What is too deep to grow has a height above the depth.
   pub too_deep_to_grow : (d : ℕ) (e : Expression) (i : ℕ) (o : Ending) (h : ℕ) → i ≤ length text → grown rules text d e i ≡ TooDeep → Runs rules text e i o h → d < h
@@ -255,7 +294,7 @@ module _ (rules : List Expression) (text : List ℕ) where
   grown_from (sees {s} {i} {j} eq) le =
       let l = subst (λ o. Runs rules text (see s) i o 0) eq runs.sees in
       let w = runs_lies rules text l le in
-      (0, (λ d hd. ap (λ o. bare o 0) eq), w.0, w.1)
+      (0, (λ d hd. ap (λ o. leafless o 0) eq), w.0, w.1)
   grown_from (joins {b = b} {m = m} p q) le =
       let x = grown_from p le in
       let y = grown_from q x.3 in
@@ -276,6 +315,9 @@ module _ (rules : List Expression) (text : List ℕ) where
   grown_from (passes {g = g} {i = i} {n = n} p eq) le =
       let x = grown_from p le in
       (x.0, (λ d hd. ap (judge_growth text g i) (x.1 d hd) ∙ ap (λ o. kept o x.0 n) eq), x.2, x.3)
+  grown_from (leaves_none {r = r} {i = i} {j = j} {h = h} p) le =
+      let w = runs_lies rules text p le in
+      (h, (λ d hd. skip_grown d r i ∙ ap of_outcome (complete rules text p le d hd)), w.0, w.1)
   grown_from (stands {r} {i} {j} {n} p) le =
       let x = grown_from p le in
       (x.0 + 1, below r i j x.0 n x.1, x.2, x.3)
@@ -308,6 +350,26 @@ module _ (rules : List Expression) (text : List ℕ) where
 
   pub one_tree_each : (e : Expression) (i : ℕ) → i ≤ length text → OneTree rules text e i
   one_tree_each e i le = record { some = λ j h p. some_tree e i j h le p; ended = λ j n p. ended_tree e i j n le p; only = λ j k m n p q. one_tree e i j k m n le p q }
+
+  -- The nodes stand in order, each one's children within it.
+  within : {e : Expression} {i j : ℕ} {m : List Node} → Derives rules text e i j m → i ≤ length text → (i ≤ j) × (j ≤ length text)
+  within p le = let x = grown_from p le in (x.2, x.3)
+
+  pub in_order : {e : Expression} {i j : ℕ} {m : List Node} → Derives rules text e i j m → i ≤ length text → Stand i j m
+  in_order (sees eq) le = ends_before (within (sees eq) le).0
+  in_order (joins p q) le = stand_append (in_order p le) (in_order q (within p le).1)
+  in_order (takes p) le = in_order p le
+  in_order (turns_to p q) le = in_order q le
+  in_order (repeats p lt q) le = stand_append (in_order p le) (in_order q (within p le).1)
+  in_order (idles p) le = ends_before (omega arith)
+  in_order (stops p) le = ends_before (omega arith)
+  in_order (misses p) le = ends_before (omega arith)
+  in_order (passes p eq) le = in_order p le
+  in_order (leaves_none p) le = ends_before (within (leaves_none p) le).0
+  in_order (stands {r} {i} {j} {n} p) le = node_stands r i j n (within p le).0 (in_order p le)
+
+  pub nodes_stand : (e : Expression) (i j : ℕ) (m : List Node) → i ≤ length text → Derives rules text e i j m → Stand i j m × (j ≤ length text)
+  nodes_stand e i j m le p = (in_order p le, (within p le).1)
 
   -- What a rule is made of, grown one level down, makes its derivation.
   pub derivation_end : (d r i j h : ℕ) (e : Expression) (m : List Node) → i ≤ length text → 0 < d → e ≡ rule_of rules r → End j h m ≡ grown rules text (d - 1) e i → h ≤ d - 1 → Derivation rules text r i d (Ok (Some (node r i j m)))

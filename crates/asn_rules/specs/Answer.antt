@@ -1,12 +1,12 @@
--- What a try at a limited depth answers.
+-- What a try at a limited depth answers. Only private contracts cite the functions; `Answers` is the public one.
 use Rattle.std.specs.Prelude.{ℕ, zero, suc, ◌+◌, ◌-◌, ◌<◌, ◌≤◌, max, List, Result, Ok, Err, length, nat_lt, if◌then◌else◌}
-use Rattle.asn_rules.specs.Expression.{Expression, see, seq, choice, many, never, guarded, rule, rule_of}
+use Rattle.asn_rules.specs.Expression.{Expression, see, seq, choice, many, never, guarded, rule, skip, rule_of}
 use Rattle.asn_rules.specs.Runs.{Ending, ends, fails, seen, judged, Runs}
 use Rattle.asn_rules.specs.declared.run.Outcome.{Outcome}
 use Rattle.asn_rules.specs.declared.run.Outcome.TheVariants.{End, Fail}
 use Rattle.asn_rules.specs.declared.run.MatchFault.{MatchFault}
 use Rattle.asn_rules.specs.declared.run.MatchFault.TheVariants.{TooDeep, OutOfMemory}
-use Rattle.asn_rules.specs.declared.expr.Guard.{Guard}
+use Rattle.asn_rules.specs.declared.expression.Guard.{Guard}
 
 abbrev pub Answer : Type 0
 Answer = Result Outcome MatchFault
@@ -68,6 +68,7 @@ expr_answer call text (many a) i = turns (expr_answer call text a) (suc (length 
 expr_answer call text (never a) i = turned i (expr_answer call text a i)
 expr_answer call text (guarded a g) i = judge text g i (expr_answer call text a i)
 expr_answer call text (rule r) i = call r i
+expr_answer call text (skip r) i = call r i
 
 abbrev pub call_answer : List Expression → List ℕ → ℕ → ℕ → ℕ → Answer
 call_answer rules text zero r i = Err TooDeep

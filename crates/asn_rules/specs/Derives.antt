@@ -1,10 +1,10 @@
 -- How an expression that ends came to its end: the nodes of the rules that it called on its way.
-use Rattle.std.specs.Prelude.{◌≡◌, ℕ, ◌<◌, List, [], ◌∷◌, ◌++◌}
-use Rattle.asn_rules.specs.Expression.{Expression, see, seq, choice, many, never, guarded, rule, Sight, rule_of}
+use Rattle.std.specs.Prelude.{◌≡◌, ℕ, ◌<◌, ◌≤◌, List, [], ◌∷◌, ◌++◌}
+use Rattle.asn_rules.specs.Expression.{Expression, see, seq, choice, many, never, guarded, rule, skip, Sight, rule_of}
 use Rattle.asn_rules.specs.Runs.{ends, fails, seen, judged, Runs}
-use Rattle.asn_rules.specs.declared.expr.Guard.{Guard}
+use Rattle.asn_rules.specs.declared.expression.Guard.{Guard}
 use Rattle.asn_rules.specs.declared.node.Node.{Node}
-use Rattle.asn_rules.specs.declared.node.Node.TheViews.{roll-Node}
+use Rattle.asn_rules.specs.declared.node.Node.TheViews.{roll-Node, out-Node}
 
 abbrev pub node : ℕ → ℕ → ℕ → List Node → Node
 node r i j children = roll-Node (record { rule = r; start = i; end = j; children = children })
@@ -21,9 +21,15 @@ pub data Derives (rules : List Expression) (text : List ℕ) : Expression → �
   misses : {a : Expression} {i h : ℕ} → Runs rules text a i fails h → Derives rules text (never a) i i []
   passes : {a : Expression} {g : Guard} {i j : ℕ} {n : List Node} → Derives rules text a i j n → judged text g i j ≡ ends j → Derives rules text (guarded a g) i j n
   stands : {r i j : ℕ} {n : List Node} → Derives rules text (rule_of rules r) i j n → Derives rules text (rule r) i j (node r i j n ∷ [])
+  leaves_none : {r i j h : ℕ} → Runs rules text (skip r) i (ends j) h → Derives rules text (skip r) i j []
 
 -- An expression ends exactly where it has nodes, and it has one list of them.
 pub record OneTree (rules : List Expression) (text : List ℕ) (e : Expression) (i : ℕ) : Type 0 where
   pub some : (j h : ℕ) → Runs rules text e i (ends j) h → (n : List Node) × Derives rules text e i j n
   pub ended : (j : ℕ) (n : List Node) → Derives rules text e i j n → (h : ℕ) × Runs rules text e i (ends j) h
   pub only : (j k : ℕ) (m n : List Node) → Derives rules text e i j m → Derives rules text e i k n → (j ≡ k) × (m ≡ n)
+
+-- The nodes stand one behind the other between two offsets, and the children of each within it.
+pub data Stand : ℕ → ℕ → List Node → Type 0 where
+  ends_before : {i j : ℕ} → i ≤ j → Stand i j []
+  one_more : {i j : ℕ} {n : Node} {ns : List Node} → i ≤ (out-Node n).start → (out-Node n).start ≤ (out-Node n).end → Stand (out-Node n).start (out-Node n).end (out-Node n).children → Stand (out-Node n).end j ns → Stand i j (n ∷ ns)

@@ -1,17 +1,19 @@
--- Expressions of an ordered grammar, and how the code's expressions read as these.
+-- Expressions of an ordered grammar (B. Ford, Parsing Expression Grammars, 2004), and how those of the code read as these.
 use Rattle.std.specs.Prelude.{ℕ, ◌+◌, List, [], get_or}
-use Rattle.asn_rules.specs.declared.expr.ByteClass.{ByteClass}
-use Rattle.asn_rules.specs.declared.expr.Guard.{Guard}
-use Rattle.asn_rules.specs.declared.expr.Look.{Look}
-use Rattle.asn_rules.specs.declared.expr.Look.TheVariants.{Bytes, Word, OneOf}
-use Rattle.asn_rules.specs.declared.expr.Expr.{Expr}
-use Rattle.asn_rules.specs.declared.expr.Expr.TheVariants.{See, Call, Sequence', Choice', Many', Not', Guarded'}
+use Rattle.asn_rules.specs.declared.expression.ByteClass.{ByteClass}
+use Rattle.asn_rules.specs.declared.expression.Guard.{Guard}
+use Rattle.asn_rules.specs.declared.expression.Sight as code
+use Rattle.asn_rules.specs.declared.expression.Sight.TheVariants.{Bytes, Word, OneOf}
+use Rattle.asn_rules.specs.declared.expression.Expression as coded
+use Rattle.asn_rules.specs.declared.expression.Expression.TheVariants.{See, Call, Skip, Sequence', Choice', Many', Not', Guarded'}
 
+-- what can stand at an offset: these bytes, these as a whole word, one byte of a class
 pub data Sight : Type 0 where
   bytes : List ℕ → Sight
   word : List ℕ → Sight
   one_of : ByteClass → Sight
 
+-- `skip` is a call of a rule that leaves no node
 pub data Expression : Type 0 where
   see : Sight → Expression
   seq : Expression → Expression → Expression
@@ -20,16 +22,18 @@ pub data Expression : Type 0 where
   never : Expression → Expression
   guarded : Expression → Guard → Expression
   rule : ℕ → Expression
+  skip : ℕ → Expression
 
-abbrev pub sight : Look → Sight
+-- The code's, without its pointers.
+abbrev pub sight : code.Sight → Sight
 sight (Bytes b) = bytes b.now
 sight (Word w) = word w.now
 sight (OneOf c) = one_of c
 
--- a code's expression
-abbrev pub expression : Expr → Expression
-expression (See l) = see (sight l)
+abbrev pub expression : coded.Expression → Expression
+expression (See s) = see (sight s)
 expression (Call r) = rule r
+expression (Skip r) = skip r
 expression (Sequence' p a q b) = seq (expression a) (expression b)
 expression (Choice' p a q b) = choice (expression a) (expression b)
 expression (Many' p a) = many (expression a)
@@ -49,3 +53,4 @@ weight (many a) = 2 + weight a
 weight (never a) = 1 + weight a
 weight (guarded a g) = 1 + weight a
 weight (rule r) = 1
+weight (skip r) = 1

@@ -1,20 +1,26 @@
 -- What a try at a limited depth grows.
 use Rattle.std.specs.Prelude.{ℕ, zero, suc, ◌+◌, ◌-◌, ◌≤◌, ◌<◌, max, List, [], ◌∷◌, ◌++◌, Option, Some, None, Result, Ok, Err, length, nat_lt, if◌then◌else◌}
-use Rattle.asn_rules.specs.Expression.{Expression, see, seq, choice, many, never, guarded, rule, rule_of}
+use Rattle.asn_rules.specs.Expression.{Expression, see, seq, choice, many, never, guarded, rule, skip, rule_of}
 use Rattle.asn_rules.specs.Runs.{Ending, ends, fails, seen, judged, Runs}
 use Rattle.asn_rules.specs.Answer.{Answer}
 use Rattle.asn_rules.specs.Derives.{node, Derives}
 use Rattle.asn_rules.specs.declared.run.Outcome.TheVariants as outcome
 use Rattle.asn_rules.specs.declared.run.MatchFault.TheVariants as fault
-use Rattle.asn_rules.specs.declared.expr.Guard.{Guard}
+use Rattle.asn_rules.specs.declared.expression.Guard.{Guard}
 use Rattle.asn_rules.specs.declared.run.MatchFault.{MatchFault}
 use Rattle.asn_rules.specs.declared.node.Node.{Node}
 use Rattle.asn_rules.specs.declared.derive.Growth.{Growth}
 use Rattle.asn_rules.specs.declared.derive.Growth.TheVariants.{End, Fail, TooDeep}
 
-abbrev pub bare : Ending → ℕ → Growth
-bare (ends j) h = End j h []
-bare fails h = Fail h
+-- with no nodes
+abbrev pub leafless : Ending → ℕ → Growth
+leafless (ends j) h = End j h []
+leafless fails h = Fail h
+
+abbrev pub without_nodes : Growth → Growth
+without_nodes (End j h m) = End j h []
+without_nodes (Fail h) = Fail h
+without_nodes TooDeep = TooDeep
 
 -- behind these nodes, at a height of at least this
 abbrev pub after : ℕ → List Node → Growth → Growth
@@ -56,13 +62,14 @@ grow_turns step zero i = TooDeep
 grow_turns step (suc n) i = grow_turn i (step i) (grow_turns step n)
 
 abbrev pub expr_growth : (ℕ → ℕ → Growth) → List ℕ → Expression → ℕ → Growth
-expr_growth call text (see s) i = bare (seen text s i) 0
+expr_growth call text (see s) i = leafless (seen text s i) 0
 expr_growth call text (seq a b) i = then_grow (expr_growth call text a i) (expr_growth call text b)
 expr_growth call text (choice a b) i = else_grow (expr_growth call text a i) (expr_growth call text b i)
 expr_growth call text (many a) i = grow_turns (expr_growth call text a) (suc (length text - i)) i
 expr_growth call text (never a) i = turn_growth i (expr_growth call text a i)
 expr_growth call text (guarded a g) i = judge_growth text g i (expr_growth call text a i)
 expr_growth call text (rule r) i = call r i
+expr_growth call text (skip r) i = without_nodes (call r i)
 
 abbrev pub topped : ℕ → ℕ → Growth → Growth
 topped r i (End j h m) = End j (h + 1) (node r i j m ∷ [])
@@ -75,6 +82,12 @@ call_growth rules text (suc d) r i = topped r i (expr_growth (call_growth rules 
 
 abbrev pub grown : List Expression → List ℕ → ℕ → Expression → ℕ → Growth
 grown rules text d e i = expr_growth (call_growth rules text d) text e i
+
+-- an answer with no nodes
+abbrev pub of_outcome : Answer → Growth
+of_outcome (Ok (outcome.End j h)) = End j h []
+of_outcome (Ok (outcome.Fail h)) = Fail h
+of_outcome (Err f) = TooDeep
 
 -- without its nodes
 abbrev pub plain : Growth → Answer

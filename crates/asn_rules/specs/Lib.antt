@@ -1,8 +1,11 @@
 pub mod Expression
+pub mod Lexical
+pub mod Guards
+pub mod Sizes
+pub mod First
+pub mod Grammar
 pub mod Runs
 pub mod Answer
-pub mod First
-pub mod Ranks
 pub mod Derives
 pub mod Grown
 pub mod Nodes

@@ -1,21 +1,24 @@
-// The interpreter that grows the tree of what stands.
+//! The interpreter that grows the tree of what stands.
+//!
+//! As `run.rt`, with the nodes of the rules that were called on the way. What is looked ahead at, skipped or tried in
+//! vain leaves none, so the first two are run without nodes. `rules.rt` calls it.
 
-ghost use Rattle.std.specs.Prelude.{◌≡◌, ◌≤◌, ◌<◌, ◌+◌, ◌-◌, ◌*◌, ◌++◌, ℕ, suc, drop, length, max, List as Sequence, [], ◌∷◌, IfOk, OnOk, slice_range};
-ghost use Rattle.asn_rules.specs.Expression.{Expression, expression, sight, rule_of, many};
-ghost use Rattle.asn_rules.specs.Runs.{seen, judged, allows};
-ghost use Rattle.asn_rules.specs.Grown.{grown, after, bare, IsWithinGrowth};
-ghost use Rattle.asn_rules.specs.First.{first};
+ghost use Rattle.std.specs.Prelude.{◌≡◌, ◌≤◌, ◌<◌, ◌+◌, length, IfOk};
+ghost use Rattle.asn_rules.specs.Expression.{expression, seq, choice, many, never, guarded, rule, skip};
+ghost use Rattle.asn_rules.specs.Grown.{grown, after, of_outcome, IsWithinGrowth};
+ghost use Rattle.asn_rules.specs.Grammar.{rules_of};
 
-use crate::expr::Expr;
-use crate::grammar::rule_expr;
+use crate::expression::{Expression, Guard};
+use crate::grammar::{Grammar, rule_expression};
+use crate::guards::is_allowed;
 use crate::node::Node;
-use crate::run::{Outcome, is_allowed, see_at};
+use crate::run::{MatchFault, Outcome, run_rule, see_at};
 use asn_memory::{List, Mem};
 use std::alloc::Global;
 
-/// What a try grew.
+/// What a try grew. That the depth was too small is no error here, so that want of memory alone is one.
 #[derive(Drop)]
-pub enum Growth {
+pub(crate) enum Growth {
     End {
         offset: usize,
         height: usize,
@@ -29,7 +32,7 @@ pub enum Growth {
 
 impl Growth {
     // The growth behind these nodes, at a height of at least this.
-    pub(crate) fn after(self, least: usize, nodes: List<Node>) -> Mem<Growth>
+    fn after(self, least: usize, nodes: List<Node>) -> Mem<Growth>
         ensures { IfOk result (λ g. g ≡ after least nodes self) }
     {
         match self {
@@ -52,132 +55,255 @@ impl Growth {
             Growth::TooDeep => Ok(Growth::TooDeep),
         }
     }
-}
 
-// What the expression grows, by the rules of `rule_expr`.
-#[cycle(growing)]
-pub(crate) fn grow(
-    alloc: Global,
-    text: &[u8],
-    expr: &Expr,
-    offset: usize,
-    depth: usize,
-) -> Mem<Growth>
-    requires { offset ≤ length text.now }
-    ensures value { IfOk result (λ g. g ≡ grown first text.now depth (expression expr.now) offset) }
-    ensures within { IfOk result (λ g. IsWithinGrowth (length text.now) depth offset g) }
-{
-    match expr {
-        Expr::See(look) => match see_at(text, look, offset) {
-            Outcome::End {
-                offset: end,
-                height,
-            } => Ok(Growth::End {
-                offset: end,
-                height,
-                nodes: List::new(alloc),
-            }),
-            Outcome::Fail { height } => Ok(Growth::Fail { height }),
-        },
-        Expr::Sequence(first, second) => match grow(alloc, text, first, offset, depth)? {
-            Growth::End {
-                offset: middle,
-                height,
-                nodes,
-            } => grow(alloc, text, second, middle, depth)?.after(height, nodes),
-            Growth::Fail { height } => Ok(Growth::Fail { height }),
-            Growth::TooDeep => Ok(Growth::TooDeep),
-        },
-        Expr::Choice(first, second) => match grow(alloc, text, first, offset, depth)? {
-            Growth::End {
-                offset: end,
-                height,
-                nodes,
-            } => Ok(Growth::End {
-                offset: end,
-                height,
-                nodes,
-            }),
-            Growth::Fail { height } => {
-                let none = List::new(alloc);
-                grow(alloc, text, second, offset, depth)?.after(height, none)
-            }
-            Growth::TooDeep => Ok(Growth::TooDeep),
-        },
-        Expr::Many(turn) => grow_many(alloc, text, turn, offset, depth),
-        Expr::Not(inner) => match grow(alloc, text, inner, offset, depth)? {
-            Growth::End {
-                offset: _,
-                height,
-                nodes: _,
-            } => Ok(Growth::Fail { height }),
-            Growth::Fail { height } => Ok(Growth::End {
+    // The outcome as a growth with no nodes.
+    fn of(alloc: Global, outcome: Result<Outcome, MatchFault>) -> Growth
+        ensures { result ≡ of_outcome outcome }
+    {
+        match outcome {
+            Ok(Outcome::End { offset, height }) => Growth::End {
                 offset,
                 height,
                 nodes: List::new(alloc),
-            }),
-            Growth::TooDeep => Ok(Growth::TooDeep),
-        },
-        Expr::Guarded(inner, guard) => match grow(alloc, text, inner, offset, depth)? {
-            Growth::End {
-                offset: end,
-                height,
-                nodes,
-            } => {
-                if is_allowed(*guard, &text[offset..end]) {
-                    Ok(Growth::End {
-                        offset: end,
-                        height,
-                        nodes,
-                    })
-                } else {
-                    Ok(Growth::Fail { height })
-                }
-            }
-            Growth::Fail { height } => Ok(Growth::Fail { height }),
-            Growth::TooDeep => Ok(Growth::TooDeep),
-        },
-        Expr::Call(rule) => {
-            if depth == 0 {
-                return Ok(Growth::TooDeep);
-            }
-            match grow(alloc, text, rule_expr(*rule), offset, depth - 1)? {
-                Growth::End {
-                    offset: end,
-                    height,
-                    nodes,
-                } => {
-                    let node = Node {
-                        rule: *rule,
-                        start: offset,
-                        end,
-                        children: nodes,
-                    };
-                    Ok(Growth::End {
-                        offset: end,
-                        height: height + 1,
-                        nodes: List::of(alloc, node)?,
-                    })
-                }
-                Growth::Fail { height } => Ok(Growth::Fail { height: height + 1 }),
-                Growth::TooDeep => Ok(Growth::TooDeep),
-            }
+            },
+            Ok(Outcome::Fail { height }) => Growth::Fail { height },
+            Err(_) => Growth::TooDeep,
         }
     }
 }
 
-// What turns of the expression grow.
-#[cycle(growing)]
-fn grow_many(alloc: Global, text: &[u8], turn: &Expr, offset: usize, depth: usize) -> Mem<Growth>
+// What the rule grows where it is skipped: it is run without nodes.
+fn grow_skip(
+    alloc: Global,
+    grammar: Grammar,
+    text: &[u8],
+    id: u8,
+    offset: usize,
+    depth: usize,
+) -> Growth
     requires { offset ≤ length text.now }
-    ensures value { IfOk result (λ g. g ≡ grown first text.now depth (many (expression turn.now)) offset) }
+    ensures value { result ≡ grown (rules_of grammar) text.now depth (skip id) offset }
+    ensures within { IsWithinGrowth (length text.now) depth offset result }
+{
+    Growth::of(alloc, run_rule(grammar, text, id, offset, depth))
+}
+
+// What the expression grows at the offset, where no more than `depth` calls lie within each other.
+#[cycle(growing)]
+pub(crate) fn grow(
+    alloc: Global,
+    grammar: Grammar,
+    text: &[u8],
+    expr: &Expression,
+    offset: usize,
+    depth: usize,
+) -> Mem<Growth>
+    requires { offset ≤ length text.now }
+    ensures value { IfOk result (λ g. g ≡ grown (rules_of grammar) text.now depth (expression expr.now) offset) }
+    ensures within { IfOk result (λ g. IsWithinGrowth (length text.now) depth offset g) }
+{
+    match expr {
+        Expression::See(look) => Ok(Growth::of(alloc, Ok(see_at(text, look, offset)))),
+        Expression::Call(id) => grow_rule(alloc, grammar, text, *id, offset, depth),
+        Expression::Skip(id) => Ok(grow_skip(alloc, grammar, text, *id, offset, depth)),
+        Expression::Sequence(left, right) => {
+            grow_sequence(alloc, grammar, text, left, right, offset, depth)
+        }
+        Expression::Choice(left, right) => {
+            grow_choice(alloc, grammar, text, left, right, offset, depth)
+        }
+        Expression::Many(turn) => grow_many(alloc, grammar, text, turn, offset, depth),
+        Expression::Not(inner) => grow_not(alloc, grammar, text, inner, offset, depth),
+        Expression::Guarded(inner, guard) => {
+            grow_guarded(alloc, grammar, text, inner, *guard, offset, depth)
+        }
+    }
+}
+
+// The node of the rule, over those that its expression grows.
+#[cycle(growing)]
+pub(crate) fn grow_rule(
+    alloc: Global,
+    grammar: Grammar,
+    text: &[u8],
+    id: u8,
+    offset: usize,
+    depth: usize,
+) -> Mem<Growth>
+    requires { offset ≤ length text.now }
+    ensures value { IfOk result (λ g. g ≡ grown (rules_of grammar) text.now depth (rule id) offset) }
+    ensures within { IfOk result (λ g. IsWithinGrowth (length text.now) depth offset g) }
+{
+    if depth == 0 {
+        return Ok(Growth::TooDeep);
+    }
+    let expr = rule_expression(grammar, id);
+    match grow(alloc, grammar, text, expr, offset, depth - 1)? {
+        Growth::End {
+            offset: end,
+            height,
+            nodes,
+        } => {
+            let node = Node {
+                rule: id,
+                start: offset,
+                end,
+                children: nodes,
+            };
+            Ok(Growth::End {
+                offset: end,
+                height: height + 1,
+                nodes: List::of(alloc, node)?,
+            })
+        }
+        Growth::Fail { height } => Ok(Growth::Fail { height: height + 1 }),
+        Growth::TooDeep => Ok(Growth::TooDeep),
+    }
+}
+
+// The nodes of the first, and of the second behind them.
+#[cycle(growing)]
+fn grow_sequence(
+    alloc: Global,
+    grammar: Grammar,
+    text: &[u8],
+    left: &Expression,
+    right: &Expression,
+    offset: usize,
+    depth: usize,
+) -> Mem<Growth>
+    requires { offset ≤ length text.now }
+    ensures value { IfOk result (λ g. g ≡ grown (rules_of grammar) text.now depth (seq (expression left.now) (expression right.now)) offset) }
+    ensures within { IfOk result (λ g. IsWithinGrowth (length text.now) depth offset g) }
+{
+    match grow(alloc, grammar, text, left, offset, depth)? {
+        Growth::End {
+            offset: middle,
+            height,
+            nodes,
+        } => grow(alloc, grammar, text, right, middle, depth)?.after(height, nodes),
+        Growth::Fail { height } => Ok(Growth::Fail { height }),
+        Growth::TooDeep => Ok(Growth::TooDeep),
+    }
+}
+
+// The nodes of the first, or where it fails of the second.
+#[cycle(growing)]
+fn grow_choice(
+    alloc: Global,
+    grammar: Grammar,
+    text: &[u8],
+    left: &Expression,
+    right: &Expression,
+    offset: usize,
+    depth: usize,
+) -> Mem<Growth>
+    requires { offset ≤ length text.now }
+    ensures value { IfOk result (λ g. g ≡ grown (rules_of grammar) text.now depth (choice (expression left.now) (expression right.now)) offset) }
+    ensures within { IfOk result (λ g. IsWithinGrowth (length text.now) depth offset g) }
+{
+    match grow(alloc, grammar, text, left, offset, depth)? {
+        Growth::End {
+            offset: end,
+            height,
+            nodes,
+        } => Ok(Growth::End {
+            offset: end,
+            height,
+            nodes,
+        }),
+        Growth::Fail { height } => {
+            let none = List::new(alloc);
+            grow(alloc, grammar, text, right, offset, depth)?.after(height, none)
+        }
+        Growth::TooDeep => Ok(Growth::TooDeep),
+    }
+}
+
+// No nodes, where the expression fails.
+#[cycle(growing)]
+fn grow_not(
+    alloc: Global,
+    grammar: Grammar,
+    text: &[u8],
+    inner: &Expression,
+    offset: usize,
+    depth: usize,
+) -> Mem<Growth>
+    requires { offset ≤ length text.now }
+    ensures value { IfOk result (λ g. g ≡ grown (rules_of grammar) text.now depth (never (expression inner.now)) offset) }
+    ensures within { IfOk result (λ g. IsWithinGrowth (length text.now) depth offset g) }
+{
+    match grow(alloc, grammar, text, inner, offset, depth)? {
+        Growth::End {
+            offset: _,
+            height,
+            nodes: _,
+        } => Ok(Growth::Fail { height }),
+        Growth::Fail { height } => Ok(Growth::End {
+            offset,
+            height,
+            nodes: List::new(alloc),
+        }),
+        Growth::TooDeep => Ok(Growth::TooDeep),
+    }
+}
+
+// The nodes of the expression, where the guard allows what it took.
+#[cycle(growing)]
+fn grow_guarded(
+    alloc: Global,
+    grammar: Grammar,
+    text: &[u8],
+    inner: &Expression,
+    guard: Guard,
+    offset: usize,
+    depth: usize,
+) -> Mem<Growth>
+    requires { offset ≤ length text.now }
+    ensures value { IfOk result (λ g. g ≡ grown (rules_of grammar) text.now depth (guarded (expression inner.now) guard) offset) }
+    ensures within { IfOk result (λ g. IsWithinGrowth (length text.now) depth offset g) }
+{
+    match grow(alloc, grammar, text, inner, offset, depth)? {
+        Growth::End {
+            offset: end,
+            height,
+            nodes,
+        } => {
+            if is_allowed(guard, &text[offset..end]) {
+                Ok(Growth::End {
+                    offset: end,
+                    height,
+                    nodes,
+                })
+            } else {
+                Ok(Growth::Fail { height })
+            }
+        }
+        Growth::Fail { height } => Ok(Growth::Fail { height }),
+        Growth::TooDeep => Ok(Growth::TooDeep),
+    }
+}
+
+// The nodes of each turn that takes a byte.
+#[cycle(growing)]
+fn grow_many(
+    alloc: Global,
+    grammar: Grammar,
+    text: &[u8],
+    turn: &Expression,
+    offset: usize,
+    depth: usize,
+) -> Mem<Growth>
+    requires { offset ≤ length text.now }
+    ensures value { IfOk result (λ g. g ≡ grown (rules_of grammar) text.now depth (many (expression turn.now)) offset) }
     ensures within { IfOk result (λ g. IsWithinGrowth (length text.now) depth offset g) }
 {
     let mut all = List::new(alloc);
     let mut at = offset;
     let mut highest = 0;
     loop {
-        match grow(alloc, text, turn, at, depth)? {
+        match grow(alloc, grammar, text, turn, at, depth)? {
             Growth::End {
                 offset: end,
                 height,

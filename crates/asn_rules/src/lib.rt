@@ -1,9 +1,27 @@
-// An ordered grammar, its interpreter, and the tree of a text.
+//! The ordered grammar of ASN.1 as a table of rules, and the interpreter that runs it over a text.
+//!
+//! The second room: it stands on `asn_memory`, knows which bytes stand where, and nothing of what they mean. The
+//! readers above ask [`derive_rule`] for the tree of a text, and read types and values off its nodes by the names of
+//! [`names`].
 #![tactic(auto)]
 
-pub mod derive;
-pub mod expr;
-pub mod grammar;
-pub mod node;
-pub mod rules;
-pub mod run;
+mod derive;
+mod expression;
+mod first;
+mod grammar;
+mod guards;
+mod lexical;
+pub mod names;
+mod node;
+mod rules;
+mod run;
+
+pub use expression::{ByteClass, Expression, Guard, Sight};
+pub use grammar::{Grammar, rule_expression};
+pub use guards::{ASN1_KEYWORDS, is_keyword, whole_number};
+pub use node::Node;
+pub use rules::{RuleId, derive_rule, nodes_stand, one_outcome, one_tree, try_rule};
+pub use run::{MatchFault, Outcome};
+
+#[cfg(test)]
+mod tests;

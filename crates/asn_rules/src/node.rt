@@ -1,4 +1,6 @@
-// The tree of a text.
+//! The tree of a text: a node for each rule that stands in it.
+//!
+//! `derive.rt` grows these, and the readers above ask them for their children.
 
 ghost use Rattle.std.specs.Prelude.{◌≡◌, ◌<◌, IfSome};
 ghost use Rattle.asn_rules.specs.declared.node.Node.{size-Node};
@@ -7,7 +9,9 @@ ghost use Rattle.asn_rules.specs.Nodes.{child_of};
 
 use asn_memory::List;
 
-/// A rule that stands in a text, from `start` to `end`, and the rules that it called there.
+/// A rule that stands in a text, and the rules that it called there, in the order of the text.
+///
+/// It stands from the byte at `start` up to the one at `end`, which is no longer of it, both counted from 0.
 #[derive(Drop)]
 pub struct Node {
     pub rule: u8,
@@ -17,7 +21,7 @@ pub struct Node {
 }
 
 impl Node {
-    /// The first child of this rule.
+    /// The first child of this rule, or None.
     pub fn child(&self, rule: u8) -> Option<&Node>
         ensures value { option_copied result ≡ child_of self.now rule }
         ensures within { IfSome result (λ child. size-Node child.now < size-Node self.now) }

@@ -1,58 +1,82 @@
-// The rules, and what a try of one comes to.
+//! The public calls: a rule is tried, or its tree is grown, at an offset of a text.
+//!
+//! The readers above call these. The laws say that the answers are the only ones there are.
 
-ghost use Rattle.std.specs.Prelude.{◌≡◌, ◌≤◌, ◌<◌, ℕ, List, length, IfSome};
-ghost use Rattle.asn_rules.specs.Expression.{rule};
+ghost use Rattle.std.specs.Prelude.{◌≡◌, ◌≤◌, ℕ, List, length};
+ghost use Rattle.asn_rules.specs.Expression.{rule as rule_call};
 ghost use Rattle.asn_rules.specs.Runs.{ExactlyOne};
 ghost use Rattle.asn_rules.specs.Answer.{Answers};
-ghost use Rattle.asn_rules.specs.First.{first};
-ghost use Rattle.asn_rules.specs.Derives.{OneTree};
+ghost use Rattle.asn_rules.specs.Grammar.{rules_of};
+ghost use Rattle.asn_rules.specs.Derives.{Derives, OneTree, Stand};
 ghost use Rattle.asn_rules.specs.Grown.{Derivation};
 
 use crate::derive::{Growth, grow};
-use crate::expr::Expr;
-use crate::grammar::rule_expr;
+use crate::grammar::{Grammar, rule_expression};
 use crate::node::Node;
-use crate::run::{MatchFault, Outcome, run};
+use crate::run::{MatchFault, Outcome, run_rule};
 use std::alloc::Global;
 
-/// The number of a rule.
-#[derive(Clone, Copy)]
+/// The number of a rule, from 1 to 190.
+#[derive(Clone, Copy, Debug, PartialEq, Eq)]
 pub struct RuleId {
     pub number: u8,
     ghost in_range: { 1 ≤ number },
     ghost in_table: { number ≤ 190 },
 }
 
-/// The outcome and the height of the rule at this offset, where the height is at most `depth`.
+impl RuleId {
+    /// The rule of this number; [`crate::names`] has those of the tables.
+    pub fn new(number: u8) -> RuleId
+        requires in_range { 1 ≤ number }
+        requires in_table { number ≤ 190 }
+        ensures { result.number ≡ number }
+    {
+        RuleId { number }
+    }
+}
+
+/// The outcome and the height of the rule at this offset, in bytes from the start of the text, where no more than
+/// `depth` calls lie within each other.
+///
+/// # Errors
+///
+/// `TooDeep` exactly where the height is above `depth`. `OutOfMemory` never.
 pub fn try_rule(
     _alloc: Global,
+    grammar: Grammar,
     text: &str,
-    id: RuleId,
+    rule: RuleId,
     offset: usize,
     depth: usize,
 ) -> Result<Outcome, MatchFault>
     requires { offset ≤ length text.now }
-    ensures { Answers first text.now (rule id.number) offset depth result }
+    ensures { Answers (rules_of grammar) text.now (rule_call rule.number) offset depth result }
 {
-    run(text.as_bytes(), &Expr::Call(id.number), offset, depth)
+    run_rule(grammar, text.as_bytes(), rule.number, offset, depth)
 }
 
-/// The node of the rule at this offset, where its height is at most `depth`: none where it fails.
+/// The tree of the rule at this offset, in bytes from the start of the text, where no more than `depth` calls lie
+/// within each other; None where the rule fails.
+///
+/// # Errors
+///
+/// `TooDeep` exactly where the height is above `depth`; `OutOfMemory` where a growth was refused.
 pub fn derive_rule(
     alloc: Global,
+    grammar: Grammar,
     text: &str,
-    id: RuleId,
+    rule: RuleId,
     offset: usize,
     depth: usize,
 ) -> Result<Option<Node>, MatchFault>
     requires { offset ≤ length text.now }
-    ensures { Derivation first text.now id.number offset depth result }
+    ensures { Derivation (rules_of grammar) text.now rule.number offset depth result }
 {
     if depth == 0 {
         return Err(MatchFault::TooDeep);
     }
-    let expr = rule_expr(id.number);
-    match grow(alloc, text.as_bytes(), expr, offset, depth - 1) {
+    let expr = rule_expression(grammar, rule.number);
+    match grow(alloc, grammar, text.as_bytes(), expr, offset, depth - 1) {
         Ok(
             Growth::End {
                 offset: end,
@@ -60,7 +84,7 @@ pub fn derive_rule(
                 nodes,
             },
         ) => Ok(Some(Node {
-            rule: id.number,
+            rule: rule.number,
             start: offset,
             end,
             children: nodes,
@@ -71,13 +95,17 @@ pub fn derive_rule(
     }
 }
 
-/// Each rule at each offset has exactly one ending and one height.
+/// Each rule at each offset of a text has exactly one ending and one height.
 pub fn one_outcome()
-    ensures { (text : List ℕ) (number offset : ℕ) → offset ≤ length text → ExactlyOne first text (rule number) offset }
+    ensures { (grammar : Grammar) (text : List ℕ) (number offset : ℕ) → offset ≤ length text → ExactlyOne (rules_of grammar) text (rule_call number) offset }
 {}
 
 /// A rule ends exactly where it has a tree, and it has one tree.
 pub fn one_tree()
-    ensures { (text : List ℕ) (number offset : ℕ) → offset ≤ length text → OneTree first text (rule number) offset }
+    ensures { (grammar : Grammar) (text : List ℕ) (number offset : ℕ) → offset ≤ length text → OneTree (rules_of grammar) text (rule_call number) offset }
 {}
 
+/// The nodes of a tree stand one behind the other, the children of each within it, and all within the text.
+pub fn nodes_stand()
+    ensures { (grammar : Grammar) (text : List ℕ) (number i j : ℕ) (nodes : List Node) → i ≤ length text → Derives (rules_of grammar) text (rule_call number) i j nodes → Stand i j nodes × (j ≤ length text) }
+{}

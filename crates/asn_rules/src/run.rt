@@ -1,25 +1,34 @@
-// The interpreter.
+//! The interpreter: what a rule comes to at an offset, with no memory and no tree.
+//!
+//! It reads the tables through `grammar.rt` and bytes through `lexical.rt` and `guards.rt`; `rules.rt` and `derive.rt` call it.
+//! Each form is a function of its own, so that a level of the recursion keeps little on the stack.
 
-ghost use Rattle.std.specs.Prelude.{◌≡◌, ◌≤◌, ◌<◌, ◌+◌, ◌-◌, ◌*◌, ℕ, suc, drop, length, IsTrue, max, List, slice_range};
-ghost use Rattle.asn_rules.specs.Expression.{Expression, expression, sight, rule_of, many};
-ghost use Rattle.asn_rules.specs.Runs.{in_class, is_alnum, word_ends, first_in, stands, width, seen, allows, judged};
-ghost use Rattle.asn_rules.specs.Answer.{answer, turns, at_height, raised, IsWithin};
-ghost use Rattle.asn_rules.specs.First.{first};
+ghost use Rattle.std.specs.Prelude.{◌≡◌, ◌≤◌, ◌<◌, ◌+◌, length};
+ghost use Rattle.asn_rules.specs.Expression.{expression, sight, seq, choice, many, never, guarded, rule};
+ghost use Rattle.asn_rules.specs.Runs.{seen};
+ghost use Rattle.asn_rules.specs.Answer.{answer, at_height, raised, one_more, IsWithin};
+ghost use Rattle.asn_rules.specs.Grammar.{rules_of};
 
-use crate::expr::{ByteClass, Expr, Guard, Look};
-use crate::grammar::rule_expr;
+use crate::expression::{Expression, Guard, Sight};
+use crate::grammar::{Grammar, rule_expression};
+use crate::guards::is_allowed;
+use crate::lexical::{stands_in, width_of};
 
-/// What a try came to.
-#[derive(Clone, Copy)]
+/// What a try of a rule came to. Its height counts the calls that lie within each other, itself included.
+#[derive(Clone, Copy, Debug, PartialEq, Eq)]
 pub enum Outcome {
+    /// It ends at this offset, in bytes from the start of the text.
     End { offset: usize, height: usize },
+    /// It does not stand here.
     Fail { height: usize },
 }
 
 /// Why a try has no outcome.
-#[derive(Clone, Copy)]
+#[derive(Clone, Copy, Debug, PartialEq, Eq)]
 pub enum MatchFault {
+    /// The height is above the depth that was allowed.
     TooDeep,
+    /// A growth was refused.
     OutOfMemory,
 }
 
@@ -40,67 +49,8 @@ impl Outcome {
     }
 }
 
-fn is_in_class(class: ByteClass, byte: u8) -> bool
-    ensures { result ≡ in_class class byte }
-{
-    match class {
-        ByteClass::Blank => byte == b' ' || (9 <= byte && byte <= 13),
-        ByteClass::Digit => b'0' <= byte && byte <= b'9',
-        ByteClass::Lower => b'a' <= byte && byte <= b'z',
-        ByteClass::Upper => b'A' <= byte && byte <= b'Z',
-        ByteClass::Letter => (b'A' <= byte && byte <= b'Z') || (b'a' <= byte && byte <= b'z'),
-        ByteClass::Alnum => {
-            (b'0' <= byte && byte <= b'9')
-                || (b'A' <= byte && byte <= b'Z')
-                || (b'a' <= byte && byte <= b'z')
-        }
-        ByteClass::Cap => (b'A' <= byte && byte <= b'Z') || (b'0' <= byte && byte <= b'9'),
-        ByteClass::LineFeed => byte == 10,
-        ByteClass::Any => true,
-    }
-}
-
-fn is_alnum_byte(byte: u8) -> bool
-    ensures { result ≡ is_alnum byte }
-{
-    is_in_class(ByteClass::Alnum, byte)
-}
-
-fn is_word_end(rest: &[u8]) -> bool
-    ensures { result ≡ word_ends rest.now }
-{
-    match rest {
-        [] => true,
-        [byte] => !is_alnum_byte(*byte),
-        [byte, next, ..] => !(is_alnum_byte(*byte) || (*byte == b'-' && is_alnum_byte(*next))),
-    }
-}
-
-fn stands_in(look: &Look, rest: &[u8]) -> bool
-    ensures value { result ≡ stands (sight look.now) rest.now }
-    ensures within { IsTrue result → width (sight look.now) ≤ length rest.now }
-{
-    match look {
-        Look::Bytes(bytes) => rest.starts_with(bytes),
-        Look::Word(word) => rest.starts_with(word) && is_word_end(&rest[word.len()..]),
-        Look::OneOf(class) => match rest {
-            [] => false,
-            [byte, ..] => is_in_class(*class, *byte),
-        },
-    }
-}
-
-fn width_of(look: &Look) -> usize
-    ensures { result ≡ width (sight look.now) }
-{
-    match look {
-        Look::Bytes(bytes) => bytes.len(),
-        Look::Word(word) => word.len(),
-        Look::OneOf(_) => 1,
-    }
-}
-
-pub(crate) fn see_at(text: &[u8], look: &Look, offset: usize) -> Outcome
+// What is seen at the offset.
+pub(crate) fn see_at(text: &[u8], look: &Sight, offset: usize) -> Outcome
     requires { offset ≤ length text.now }
     ensures { result ≡ at_height (seen text.now (sight look.now) offset) 0 }
 {
@@ -114,98 +64,186 @@ pub(crate) fn see_at(text: &[u8], look: &Look, offset: usize) -> Outcome
     }
 }
 
-pub(crate) fn is_allowed(guard: Guard, taken: &[u8]) -> bool
-    ensures { result ≡ allows guard taken.now }
-{
-    match guard {
-        Guard::NoKeyword => !taken.starts_with(b"END"),
-        Guard::Short => taken.len() < 20,
-    }
-}
-
-// What the expression comes to, by the rules of `rule_expr`.
+// What the expression comes to at the offset, where no more than `depth` calls lie within each other.
 #[cycle(matching)]
 pub(crate) fn run(
+    grammar: Grammar,
     text: &[u8],
-    expr: &Expr,
+    expr: &Expression,
     offset: usize,
     depth: usize,
 ) -> Result<Outcome, MatchFault>
     requires { offset ≤ length text.now }
-    ensures value { result ≡ answer first text.now depth (expression expr.now) offset }
+    ensures value { result ≡ answer (rules_of grammar) text.now depth (expression expr.now) offset }
     ensures within { IsWithin (length text.now) depth offset result }
 {
     match expr {
-        Expr::See(look) => Ok(see_at(text, look, offset)),
-        Expr::Sequence(first, second) => match run(text, first, offset, depth)? {
-            Outcome::End {
-                offset: middle,
-                height,
-            } => { Ok(run(text, second, middle, depth)?.raised(height)) }
-            Outcome::Fail { height } => Ok(Outcome::Fail { height }),
-        },
-        Expr::Choice(first, second) => match run(text, first, offset, depth)? {
-            Outcome::End {
-                offset: end,
-                height,
-            } => Ok(Outcome::End {
-                offset: end,
-                height,
-            }),
-            Outcome::Fail { height } => Ok(run(text, second, offset, depth)?.raised(height)),
-        },
-        Expr::Many(turn) => run_many(text, turn, offset, depth),
-        Expr::Not(inner) => match run(text, inner, offset, depth)? {
-            Outcome::End { offset: _, height } => Ok(Outcome::Fail { height }),
-            Outcome::Fail { height } => Ok(Outcome::End { offset, height }),
-        },
-        Expr::Guarded(inner, guard) => match run(text, inner, offset, depth)? {
-            Outcome::End {
-                offset: end,
-                height,
-            } => {
-                if is_allowed(*guard, &text[offset..end]) {
-                    Ok(Outcome::End {
-                        offset: end,
-                        height,
-                    })
-                } else {
-                    Ok(Outcome::Fail { height })
-                }
-            }
-            Outcome::Fail { height } => Ok(Outcome::Fail { height }),
-        },
-        Expr::Call(rule) => {
-            if depth == 0 {
-                return Err(MatchFault::TooDeep);
-            }
-            match run(text, rule_expr(*rule), offset, depth - 1)? {
-                Outcome::End {
-                    offset: end,
-                    height,
-                } => {
-                    Ok(Outcome::End {
-                        offset: end,
-                        height: height + 1,
-                    })
-                }
-                Outcome::Fail { height } => Ok(Outcome::Fail { height: height + 1 }),
-            }
-        }
+        Expression::See(look) => Ok(see_at(text, look, offset)),
+        Expression::Call(id) => run_rule(grammar, text, *id, offset, depth),
+        Expression::Skip(id) => run_rule(grammar, text, *id, offset, depth),
+        Expression::Sequence(left, right) => run_sequence(
+            grammar, text, left, right, offset, depth,
+        ),
+        Expression::Choice(left, right) => run_choice(grammar, text, left, right, offset, depth),
+        Expression::Many(turn) => run_many(grammar, text, turn, offset, depth),
+        Expression::Not(inner) => run_not(grammar, text, inner, offset, depth),
+        Expression::Guarded(inner, guard) => run_guarded(
+            grammar, text, inner, *guard, offset, depth,
+        ),
     }
 }
 
-// What turns of the expression come to.
+// What the rule comes to: what its expression does, one call higher.
 #[cycle(matching)]
-fn run_many(text: &[u8], turn: &Expr, offset: usize, depth: usize) -> Result<Outcome, MatchFault>
+pub(crate) fn run_rule(
+    grammar: Grammar,
+    text: &[u8],
+    id: u8,
+    offset: usize,
+    depth: usize,
+) -> Result<Outcome, MatchFault>
     requires { offset ≤ length text.now }
-    ensures value { result ≡ answer first text.now depth (many (expression turn.now)) offset }
+    ensures value { result ≡ answer (rules_of grammar) text.now depth (rule id) offset }
+    ensures within { IsWithin (length text.now) depth offset result }
+{
+    if depth == 0 {
+        return Err(MatchFault::TooDeep);
+    }
+    match run(
+        grammar,
+        text,
+        rule_expression(grammar, id),
+        offset,
+        depth - 1,
+    )? {
+        Outcome::End {
+            offset: end,
+            height,
+        } => Ok(Outcome::End {
+            offset: end,
+            height: height + 1,
+        }),
+        Outcome::Fail { height } => Ok(Outcome::Fail { height: height + 1 }),
+    }
+}
+
+// What the first comes to, and the second from its end on.
+#[cycle(matching)]
+fn run_sequence(
+    grammar: Grammar,
+    text: &[u8],
+    left: &Expression,
+    right: &Expression,
+    offset: usize,
+    depth: usize,
+) -> Result<Outcome, MatchFault>
+    requires { offset ≤ length text.now }
+    ensures value { result ≡ answer (rules_of grammar) text.now depth (seq (expression left.now) (expression right.now)) offset }
+    ensures within { IsWithin (length text.now) depth offset result }
+{
+    match run(grammar, text, left, offset, depth)? {
+        Outcome::End {
+            offset: middle,
+            height,
+        } => Ok(run(grammar, text, right, middle, depth)?.raised(height)),
+        Outcome::Fail { height } => Ok(Outcome::Fail { height }),
+    }
+}
+
+// What the first comes to, or where it fails the second.
+#[cycle(matching)]
+fn run_choice(
+    grammar: Grammar,
+    text: &[u8],
+    left: &Expression,
+    right: &Expression,
+    offset: usize,
+    depth: usize,
+) -> Result<Outcome, MatchFault>
+    requires { offset ≤ length text.now }
+    ensures value { result ≡ answer (rules_of grammar) text.now depth (choice (expression left.now) (expression right.now)) offset }
+    ensures within { IsWithin (length text.now) depth offset result }
+{
+    match run(grammar, text, left, offset, depth)? {
+        Outcome::End {
+            offset: end,
+            height,
+        } => Ok(Outcome::End {
+            offset: end,
+            height,
+        }),
+        Outcome::Fail { height } => Ok(run(grammar, text, right, offset, depth)?.raised(height)),
+    }
+}
+
+// An end that takes nothing where the expression fails, and a failure where it ends.
+#[cycle(matching)]
+fn run_not(
+    grammar: Grammar,
+    text: &[u8],
+    inner: &Expression,
+    offset: usize,
+    depth: usize,
+) -> Result<Outcome, MatchFault>
+    requires { offset ≤ length text.now }
+    ensures value { result ≡ answer (rules_of grammar) text.now depth (never (expression inner.now)) offset }
+    ensures within { IsWithin (length text.now) depth offset result }
+{
+    match run(grammar, text, inner, offset, depth)? {
+        Outcome::End { offset: _, height } => Ok(Outcome::Fail { height }),
+        Outcome::Fail { height } => Ok(Outcome::End { offset, height }),
+    }
+}
+
+// What the expression comes to, where the guard allows what it took.
+#[cycle(matching)]
+fn run_guarded(
+    grammar: Grammar,
+    text: &[u8],
+    inner: &Expression,
+    guard: Guard,
+    offset: usize,
+    depth: usize,
+) -> Result<Outcome, MatchFault>
+    requires { offset ≤ length text.now }
+    ensures value { result ≡ answer (rules_of grammar) text.now depth (guarded (expression inner.now) guard) offset }
+    ensures within { IsWithin (length text.now) depth offset result }
+{
+    match run(grammar, text, inner, offset, depth)? {
+        Outcome::End {
+            offset: end,
+            height,
+        } => {
+            if is_allowed(guard, &text[offset..end]) {
+                Ok(Outcome::End {
+                    offset: end,
+                    height,
+                })
+            } else {
+                Ok(Outcome::Fail { height })
+            }
+        }
+        Outcome::Fail { height } => Ok(Outcome::Fail { height }),
+    }
+}
+
+// The end of the last turn that takes a byte.
+#[cycle(matching)]
+fn run_many(
+    grammar: Grammar,
+    text: &[u8],
+    turn: &Expression,
+    offset: usize,
+    depth: usize,
+) -> Result<Outcome, MatchFault>
+    requires { offset ≤ length text.now }
+    ensures value { result ≡ answer (rules_of grammar) text.now depth (many (expression turn.now)) offset }
     ensures within { IsWithin (length text.now) depth offset result }
 {
     let mut at = offset;
     let mut highest = 0;
     loop {
-        match run(text, turn, at, depth)? {
+        match run(grammar, text, turn, at, depth)? {
             Outcome::End {
                 offset: end,
                 height,

@@ -1,0 +1,7 @@
+use Rattle.std.proofs.Common.{◌≡◌, drop, nat_eq}
+use Rattle.std.specs.Cmp.Lexicographic.{pointwise}
+use Rattle.asn_rules.specs.Guards.{bare}
+use Rattle.asn_rules.proofs.guards.is_word.Given as goal
+
+abbrev pub invariant-loop-byte : goal.invariant-loop-byte
+invariant-loop-byte l = pointwise nat_eq (bare l.taken) l.word ≡ pointwise nat_eq (bare (drop l.byte-index l.taken)) l.left

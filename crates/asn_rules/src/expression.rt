@@ -1,0 +1,69 @@
+//! The forms of which a rule of an ordered grammar is made.
+//!
+//! The tables in `first.rt` are made of these, and the interpreters in `run.rt` and `derive.rt` read them.
+
+/// A class of bytes. Letters and digits are those of ASCII.
+#[derive(Clone, Copy)]
+pub enum ByteClass {
+    /// Space, tab, line feed, carriage return, vertical tab, form feed.
+    Blank,
+    /// `0` to `9`.
+    Digit,
+    /// `a` to `z`, `A` to `Z`.
+    Letter,
+    /// `a` to `z`.
+    Lower,
+    /// `A` to `Z`.
+    Upper,
+    /// A letter or a digit.
+    Alnum,
+    /// An upper-case letter or a digit.
+    Cap,
+    /// The line feed.
+    LineFeed,
+    /// Each byte.
+    Any,
+}
+
+/// A test of the bytes that an expression took. Blanks among them count for nothing.
+#[derive(Clone, Copy)]
+pub enum Guard {
+    /// They are none of the reserved words [`crate::ASN1_KEYWORDS`].
+    NoKeyword,
+    /// They are a whole number from -2^127 to 2^127 - 1.
+    FitsI128,
+    /// They are two such numbers with `..` between them, the first at most the second.
+    IsOrdered,
+}
+
+/// What can stand at an offset.
+#[derive(Clone, Copy)]
+pub enum Sight {
+    /// These bytes.
+    Bytes(&'static [u8]),
+    /// These bytes, with no letter or digit behind them, nor a hyphen that is followed by one.
+    Word(&'static [u8]),
+    /// One byte of the class.
+    OneOf(ByteClass),
+}
+
+/// An expression of an ordered grammar.
+#[derive(Clone, Copy)]
+pub enum Expression {
+    /// What is seen here is taken.
+    See(Sight),
+    /// The rule of this number stands here, as a node of the tree.
+    Call(u8),
+    /// The rule of this number stands here, and leaves no node.
+    Skip(u8),
+    /// The first, and then the second.
+    Sequence(&'static Expression, &'static Expression),
+    /// The first, or where it fails the second.
+    Choice(&'static Expression, &'static Expression),
+    /// As many turns as there are, and none is enough.
+    Many(&'static Expression),
+    /// Nothing is taken, and the expression does not stand here.
+    Not(&'static Expression),
+    /// The expression, where the guard allows what it took.
+    Guarded(&'static Expression, Guard),
+}

@@ -1,0 +1,370 @@
+//! The table of the first part of ASN.1: a static for each rule, with its text above it.
+//!
+//! A name in a row is a call of that rule. `"x"` and `'X'` skip blanks; then `"x"` stands as it is, and `'X'` as a whole
+//! word. `?`, `*` and `+` are an option, any number of turns, at least one; `/` tries the second where the first fails;
+//! `!` looks ahead; what stands in braces is a guard. `grammar.rt` alone calls this file.
+
+ghost use Rattle.std.specs.Prelude.{◌≡◌, ◌≤◌};
+ghost use Rattle.asn_rules.specs.Expression.{expression, rule_of, weight};
+ghost use Rattle.asn_rules.specs.First.{first};
+
+use crate::expression::Expression::{Call, Guarded, Many, Not};
+use crate::expression::{ByteClass, Expression, Guard, Sight};
+use crate::names::{
+    ASN_MODULE, ASN1_TYPE, ASN1_VALUE, ASSIGNMENT, BOOLEAN, COMPONENT_LIST, CONSTRAINT, DEFINITION,
+    DIGITS, ELSEWHERE_DECLARED_TYPE, END, ENVIRONMENTS, IDENTIFIER, INTEGER, INTEGER_VALUE,
+    MODULE_REFERENCE, NAME_TAIL, NUMBER_I128, RANGE_SEPERATOR, SEQUENCE, SEQUENCE_COMPONENT,
+    SEQUENCE_OR_SET_MEMBER, SP, STRUCT_BODY, TAG_DEFAULT, TITLE_CASE_IDENTIFIER,
+    TOP_LEVEL_TYPE_DECLARATION, VALUE_RANGE,
+};
+
+macro_rules! seq {
+    ($a:expr) => { $a };
+    ($a:expr, $($rest:expr),+) => { Expression::Sequence(&$a, &seq!($($rest),+)) };
+}
+
+macro_rules! choice {
+    ($a:expr) => { $a };
+    ($a:expr, $($rest:expr),+) => { Expression::Choice(&$a, &choice!($($rest),+)) };
+}
+
+macro_rules! bytes {
+    ($text:expr) => { Expression::See(Sight::Bytes($text)) };
+}
+
+macro_rules! word {
+    ($text:expr) => { Expression::See(Sight::Word($text)) };
+}
+
+macro_rules! symbol {
+    ($text:expr) => { Expression::Sequence(&GAP, &Expression::See(Sight::Bytes($text))) };
+}
+
+macro_rules! keyword {
+    ($text:expr) => { Expression::Sequence(&GAP, &Expression::See(Sight::Word($text))) };
+}
+
+macro_rules! option {
+    ($a:expr) => { Expression::Choice(&$a, &EMPTY) };
+}
+
+macro_rules! some {
+    ($a:expr) => { Expression::Sequence(&$a, &Expression::Many(&$a)) };
+}
+
+const BLANKS: Expression = Expression::Call(SP);
+
+// The blanks before a literal: no reader needs them.
+const GAP: Expression = Expression::Skip(SP);
+
+const EMPTY: Expression = Expression::See(Sight::Bytes(b""));
+
+const NONE: Expression = Expression::Not(&EMPTY);
+
+const LETTER: Expression = Expression::See(Sight::OneOf(ByteClass::Letter));
+
+const LOWER: Expression = Expression::See(Sight::OneOf(ByteClass::Lower));
+
+const UPPER: Expression = Expression::See(Sight::OneOf(ByteClass::Upper));
+
+const DIGIT: Expression = Expression::See(Sight::OneOf(ByteClass::Digit));
+
+const ALNUM: Expression = Expression::See(Sight::OneOf(ByteClass::Alnum));
+
+const CAP: Expression = Expression::See(Sight::OneOf(ByteClass::Cap));
+
+const BLANK: Expression = Expression::See(Sight::OneOf(ByteClass::Blank));
+
+const LINE_FEED: Expression = Expression::See(Sight::OneOf(ByteClass::LineFeed));
+
+const ANY: Expression = Expression::See(Sight::OneOf(ByteClass::Any));
+
+static NO_RULE: Expression = NONE;
+
+// 1 sp = blank*
+static RULE_1: Expression = Many(&BLANK);
+// 7 name_tail = (alnum / `-` alnum)*
+static RULE_7: Expression = Many(&choice!(ALNUM, seq!(bytes!(b"-"), ALNUM)));
+// 8 identifier = sp letter name_tail
+static RULE_8: Expression = seq!(BLANKS, LETTER, Call(NAME_TAIL));
+// 9 title_case_identifier = sp cap name_tail {no keyword}
+static RULE_9: Expression = Guarded(&seq!(BLANKS, CAP, Call(NAME_TAIL)), Guard::NoKeyword);
+// 14 digits = digit+
+static RULE_14: Expression = some!(DIGIT);
+// 17 number_i128 = sp `-`? sp digits {fits i128}
+static RULE_17: Expression = Guarded(
+    &seq!(BLANKS, option!(bytes!(b"-")), BLANKS, Call(DIGITS)),
+    Guard::FitsI128,
+);
+// 20 range_seperator = ".."
+static RULE_20: Expression = symbol!(b"..");
+// 22 assignment = "::="
+static RULE_22: Expression = symbol!(b"::=");
+// 44 integer_value = number_i128
+static RULE_44: Expression = Call(NUMBER_I128);
+// 53 asn1_value = integer_value
+static RULE_53: Expression = Call(INTEGER_VALUE);
+// 60 sequence = 'SEQUENCE' struct_body
+static RULE_60: Expression = seq!(keyword!(b"SEQUENCE"), Call(STRUCT_BODY));
+// 62 struct_body = "{" component_list "}"
+static RULE_62: Expression = seq!(symbol!(b"{"), Call(COMPONENT_LIST), symbol!(b"}"));
+// 64 component_list = (sequence_component ","?)*
+static RULE_64: Expression = Many(&seq!(Call(SEQUENCE_COMPONENT), option!(symbol!(b","))));
+// 69 sequence_component = sequence_or_set_member
+static RULE_69: Expression = Call(SEQUENCE_OR_SET_MEMBER);
+// 70 sequence_or_set_member = identifier asn1_type
+static RULE_70: Expression = seq!(Call(IDENTIFIER), Call(ASN1_TYPE));
+// 85 integer = 'INTEGER' constraint?
+static RULE_85: Expression = seq!(keyword!(b"INTEGER"), option!(Call(CONSTRAINT)));
+// 93 boolean = 'BOOLEAN'
+static RULE_93: Expression = keyword!(b"BOOLEAN");
+// 100 elsewhere_declared_type = title_case_identifier
+static RULE_100: Expression = Call(TITLE_CASE_IDENTIFIER);
+// 101 asn1_type = sequence / integer / boolean / elsewhere_declared_type
+static RULE_101: Expression = choice!(
+    Call(SEQUENCE),
+    Call(INTEGER),
+    Call(BOOLEAN),
+    Call(ELSEWHERE_DECLARED_TYPE)
+);
+// 102 constraint = "(" value_range ")"
+static RULE_102: Expression = seq!(symbol!(b"("), Call(VALUE_RANGE), symbol!(b")"));
+// 133 value_range = asn1_value range_seperator asn1_value {the first is at most the second}
+static RULE_133: Expression = Guarded(
+    &seq!(Call(ASN1_VALUE), Call(RANGE_SEPERATOR), Call(ASN1_VALUE)),
+    Guard::IsOrdered,
+);
+// 166 tag_default = words(AUTOMATIC, IMPLICIT, EXPLICIT) 'TAGS'
+static RULE_166: Expression = seq!(
+    seq!(
+        BLANKS,
+        choice!(word!(b"AUTOMATIC"), word!(b"IMPLICIT"), word!(b"EXPLICIT"))
+    ),
+    keyword!(b"TAGS")
+);
+// 167 environments = tag_default?
+static RULE_167: Expression = option!(Call(TAG_DEFAULT));
+// 176 module_reference = identifier 'DEFINITIONS' environments assignment 'BEGIN'
+static RULE_176: Expression = seq!(
+    Call(IDENTIFIER),
+    keyword!(b"DEFINITIONS"),
+    Call(ENVIRONMENTS),
+    Call(ASSIGNMENT),
+    keyword!(b"BEGIN")
+);
+// 179 end = 'END'
+static RULE_179: Expression = keyword!(b"END");
+// 185 top_level_type_declaration = title_case_identifier assignment (sequence / integer / boolean)
+static RULE_185: Expression = seq!(
+    Call(TITLE_CASE_IDENTIFIER),
+    Call(ASSIGNMENT),
+    choice!(Call(SEQUENCE), Call(INTEGER), Call(BOOLEAN))
+);
+// 188 definition = top_level_type_declaration
+static RULE_188: Expression = Call(TOP_LEVEL_TYPE_DECLARATION);
+// 189 asn_module = module_reference definition* end
+static RULE_189: Expression = seq!(Call(MODULE_REFERENCE), Many(&Call(DEFINITION)), Call(END));
+// 190 asn_spec = asn_module+ sp !any
+static RULE_190: Expression = seq!(some!(Call(ASN_MODULE)), BLANKS, Not(&ANY));
+
+/// The expression of a rule; of a number that is no rule's, one that fails everywhere.
+#[tactic(auto, unfolding(crate::specs::First::first))]
+pub(crate) fn first_expression(rule: u8) -> &'static Expression
+    ensures value { expression result.now ≡ rule_of first rule }
+    ensures weight { weight (expression result.now) ≤ 999 }
+{
+    match rule {
+        0 => &NO_RULE,
+        1 => &RULE_1,
+        2 => &NO_RULE,
+        3 => &NO_RULE,
+        4 => &NO_RULE,
+        5 => &NO_RULE,
+        6 => &NO_RULE,
+        7 => &RULE_7,
+        8 => &RULE_8,
+        9 => &RULE_9,
+        10 => &NO_RULE,
+        11 => &NO_RULE,
+        12 => &NO_RULE,
+        13 => &NO_RULE,
+        14 => &RULE_14,
+        15 => &NO_RULE,
+        16 => &NO_RULE,
+        17 => &RULE_17,
+        18 => &NO_RULE,
+        19 => &NO_RULE,
+        20 => &RULE_20,
+        21 => &NO_RULE,
+        22 => &RULE_22,
+        23 => &NO_RULE,
+        24 => &NO_RULE,
+        25 => &NO_RULE,
+        26 => &NO_RULE,
+        27 => &NO_RULE,
+        28 => &NO_RULE,
+        29 => &NO_RULE,
+        30 => &NO_RULE,
+        31 => &NO_RULE,
+        32 => &NO_RULE,
+        33 => &NO_RULE,
+        34 => &NO_RULE,
+        35 => &NO_RULE,
+        36 => &NO_RULE,
+        37 => &NO_RULE,
+        38 => &NO_RULE,
+        39 => &NO_RULE,
+        40 => &NO_RULE,
+        41 => &NO_RULE,
+        42 => &NO_RULE,
+        43 => &NO_RULE,
+        44 => &RULE_44,
+        45 => &NO_RULE,
+        46 => &NO_RULE,
+        47 => &NO_RULE,
+        48 => &NO_RULE,
+        49 => &NO_RULE,
+        50 => &NO_RULE,
+        51 => &NO_RULE,
+        52 => &NO_RULE,
+        53 => &RULE_53,
+        54 => &NO_RULE,
+        55 => &NO_RULE,
+        56 => &NO_RULE,
+        57 => &NO_RULE,
+        58 => &NO_RULE,
+        59 => &NO_RULE,
+        60 => &RULE_60,
+        61 => &NO_RULE,
+        62 => &RULE_62,
+        63 => &NO_RULE,
+        64 => &RULE_64,
+        65 => &NO_RULE,
+        66 => &NO_RULE,
+        67 => &NO_RULE,
+        68 => &NO_RULE,
+        69 => &RULE_69,
+        70 => &RULE_70,
+        71 => &NO_RULE,
+        72 => &NO_RULE,
+        73 => &NO_RULE,
+        74 => &NO_RULE,
+        75 => &NO_RULE,
+        76 => &NO_RULE,
+        77 => &NO_RULE,
+        78 => &NO_RULE,
+        79 => &NO_RULE,
+        80 => &NO_RULE,
+        81 => &NO_RULE,
+        82 => &NO_RULE,
+        83 => &NO_RULE,
+        84 => &NO_RULE,
+        85 => &RULE_85,
+        86 => &NO_RULE,
+        87 => &NO_RULE,
+        88 => &NO_RULE,
+        89 => &NO_RULE,
+        90 => &NO_RULE,
+        91 => &NO_RULE,
+        92 => &NO_RULE,
+        93 => &RULE_93,
+        94 => &NO_RULE,
+        95 => &NO_RULE,
+        96 => &NO_RULE,
+        97 => &NO_RULE,
+        98 => &NO_RULE,
+        99 => &NO_RULE,
+        100 => &RULE_100,
+        101 => &RULE_101,
+        102 => &RULE_102,
+        103 => &NO_RULE,
+        104 => &NO_RULE,
+        105 => &NO_RULE,
+        106 => &NO_RULE,
+        107 => &NO_RULE,
+        108 => &NO_RULE,
+        109 => &NO_RULE,
+        110 => &NO_RULE,
+        111 => &NO_RULE,
+        112 => &NO_RULE,
+        113 => &NO_RULE,
+        114 => &NO_RULE,
+        115 => &NO_RULE,
+        116 => &NO_RULE,
+        117 => &NO_RULE,
+        118 => &NO_RULE,
+        119 => &NO_RULE,
+        120 => &NO_RULE,
+        121 => &NO_RULE,
+        122 => &NO_RULE,
+        123 => &NO_RULE,
+        124 => &NO_RULE,
+        125 => &NO_RULE,
+        126 => &NO_RULE,
+        127 => &NO_RULE,
+        128 => &NO_RULE,
+        129 => &NO_RULE,
+        130 => &NO_RULE,
+        131 => &NO_RULE,
+        132 => &NO_RULE,
+        133 => &RULE_133,
+        134 => &NO_RULE,
+        135 => &NO_RULE,
+        136 => &NO_RULE,
+        137 => &NO_RULE,
+        138 => &NO_RULE,
+        139 => &NO_RULE,
+        140 => &NO_RULE,
+        141 => &NO_RULE,
+        142 => &NO_RULE,
+        143 => &NO_RULE,
+        144 => &NO_RULE,
+        145 => &NO_RULE,
+        146 => &NO_RULE,
+        147 => &NO_RULE,
+        148 => &NO_RULE,
+        149 => &NO_RULE,
+        150 => &NO_RULE,
+        151 => &NO_RULE,
+        152 => &NO_RULE,
+        153 => &NO_RULE,
+        154 => &NO_RULE,
+        155 => &NO_RULE,
+        156 => &NO_RULE,
+        157 => &NO_RULE,
+        158 => &NO_RULE,
+        159 => &NO_RULE,
+        160 => &NO_RULE,
+        161 => &NO_RULE,
+        162 => &NO_RULE,
+        163 => &NO_RULE,
+        164 => &NO_RULE,
+        165 => &NO_RULE,
+        166 => &RULE_166,
+        167 => &RULE_167,
+        168 => &NO_RULE,
+        169 => &NO_RULE,
+        170 => &NO_RULE,
+        171 => &NO_RULE,
+        172 => &NO_RULE,
+        173 => &NO_RULE,
+        174 => &NO_RULE,
+        175 => &NO_RULE,
+        176 => &RULE_176,
+        177 => &NO_RULE,
+        178 => &NO_RULE,
+        179 => &RULE_179,
+        180 => &NO_RULE,
+        181 => &NO_RULE,
+        182 => &NO_RULE,
+        183 => &NO_RULE,
+        184 => &NO_RULE,
+        185 => &RULE_185,
+        186 => &NO_RULE,
+        187 => &NO_RULE,
+        188 => &RULE_188,
+        189 => &RULE_189,
+        190 => &RULE_190,
+        191..=255 => &NO_RULE,
+    }
+}
