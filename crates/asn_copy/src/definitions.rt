@@ -13,10 +13,7 @@ use asn_tree::{
 use std::alloc::Global;
 
 /// A copy of a governor.
-pub fn copy_parameter_governor(
-    alloc: Global,
-    value: &ParameterGovernor,
-) -> Mem<ParameterGovernor>
+pub fn copy_parameter_governor(alloc: Global, value: &ParameterGovernor) -> Mem<ParameterGovernor>
     ensures { IfOk result (λ copy. copy ≡ value.now) }
 {
     match value {

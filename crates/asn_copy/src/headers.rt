@@ -218,8 +218,10 @@ pub fn copy_module_reference(alloc: Global, value: &ModuleReference) -> Mem<Modu
 {
     let name = copy_text(alloc, &value.name)?;
     let module_identifier = copy_module_identifier(alloc, &value.module_identifier)?;
-    let encoding_reference_default =
-        copy_encoding_reference(alloc, &value.encoding_reference_default)?;
+    let encoding_reference_default = copy_encoding_reference(
+        alloc,
+        &value.encoding_reference_default,
+    )?;
     let imports = copy_list(alloc, &value.imports)?;
     let exports = copy_optional_exports(alloc, &value.exports)?;
     Ok(ModuleReference {

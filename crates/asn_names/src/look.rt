@@ -81,12 +81,7 @@ fn definitions_at<'t>(
 }
 
 /// Puts the place of a name into the index.
-fn put(
-    alloc: Global,
-    index: &mut BTreeMap<String, Place>,
-    name: &Text,
-    place: Place,
-) -> Mem<()>
+fn put(alloc: Global, index: &mut BTreeMap<String, Place>, name: &Text, place: Place) -> Mem<()>
     ensures { OnOk result ((q : Sequence ℕ) → get_by_text index.new q ≡ (if bytes_eq name.now q then Some place else get_by_text index.old q)) }
 {
     let key = String::from_str(alloc, name.as_str())?;

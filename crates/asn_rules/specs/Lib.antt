@@ -9,3 +9,4 @@ pub mod Answer
 pub mod Derives
 pub mod Grown
 pub mod Nodes
+pub mod Valid

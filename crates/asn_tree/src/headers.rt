@@ -20,7 +20,10 @@ pub struct ModuleReference {
 #[derive(Drop)]
 pub enum DefinitiveIdentifier {
     DefinitiveOID(ObjectIdentifierValue),
-    DefinitiveOIDandIRI { oid: ObjectIdentifierValue, iri: Text },
+    DefinitiveOIDandIRI {
+        oid: ObjectIdentifierValue,
+        iri: Text,
+    },
 }
 
 /// The encoding reference of a module (X.680 13.1).

@@ -13,7 +13,9 @@ mod headers;
 mod types;
 mod values;
 
-pub use constraints::{Constraint, ElementOrSetOperation, ElementSet, ElementSetOver, SubtypeElement};
+pub use constraints::{
+    Constraint, ElementOrSetOperation, ElementSet, ElementSetOver, SubtypeElement,
+};
 pub use definitions::{
     ParameterGovernor, Parameterization, ParameterizationArgument, Reading, ToplevelDefinition,
     ToplevelTypeDefinition,
@@ -22,7 +24,8 @@ pub use errors::{GrammarErrorType, LinkerError, LinkerErrorType};
 pub use headers::{
     AsnTag, AssignedIdentifier, DefinitiveIdentifier, EncodingReferenceDefault, Exports,
     ExtensibilityEnvironment, ExternalValueReference, GlobalModuleReference, Import,
-    ModuleReference, ObjectIdentifierArc, ObjectIdentifierValue, TagClass, TaggingEnvironment, With,
+    ModuleReference, ObjectIdentifierArc, ObjectIdentifierValue, TagClass, TaggingEnvironment,
+    With,
 };
 pub use types::{
     ASN1Type, Boolean, BooleanOver, DeclarationElsewhere, DeclarationElsewhereOver,

@@ -30,9 +30,9 @@ is_missing_in_members-returns-then-is_missing_in t c =
     let items = c.as_slice-member-items.result.now in
     let lt : c.loop-member.member-index < length items = omega arith in
     sym (
-      ap (λ ms. list_any f (members_names ms)) (sym c.as_slice-member-items.ensures)
-      ∙ c.loop-member.invariant
-      ∙ ap (λ ms. list_any f (members_names ms)) (drop-cons items c.loop-member.member-index c.member-item.result lt)
-      ∙ member_any f (get_or items c.loop-member.member-index c.member-item.result) (drop (suc c.loop-member.member-index) items)
-      ∙ ap (λ m. list_any f (names_in (out-SequenceOrSetMember m).ty) || list_any f (members_names (drop (suc c.loop-member.member-index) items))) (sym c.member-item.is)
-      ∙ ap (λ b. b || list_any f (members_names (drop (suc c.loop-member.member-index) items))) (sym c.is_missing_in.ensures ∙ c.if-is_missing_in.true))
+    ap (λ ms. list_any f (members_names ms)) (sym c.as_slice-member-items.ensures)
+    ∙ c.loop-member.invariant
+    ∙ ap (λ ms. list_any f (members_names ms)) (drop-cons items c.loop-member.member-index c.member-item.result lt)
+    ∙ member_any f (get_or items c.loop-member.member-index c.member-item.result) (drop (suc c.loop-member.member-index) items)
+    ∙ ap (λ m. list_any f (names_in (out-SequenceOrSetMember m).ty) || list_any f (members_names (drop (suc c.loop-member.member-index) items))) (sym c.member-item.is)
+    ∙ ap (λ b. b || list_any f (members_names (drop (suc c.loop-member.member-index) items))) (sym c.is_missing_in.ensures ∙ c.if-is_missing_in.true))
