@@ -3,7 +3,7 @@ use Rattle.std.specs.Prelude.{ℕ, ℤ, pos, List, [], ◌∷◌, ◌&&◌, nat_
 use Rattle.std.specs.Str.Lossy.{utf8_lossy}
 use Rattle.asn_rules.specs.declared.node.Node.{Node}
 use Rattle.asn_rules.specs.declared.node.Node.TheViews.{out-Node}
-use Rattle.asn_rules.specs.Numbers.{whole_number}
+use Rattle.asn_rules.specs.Guards.{bare, number}
 
 -- the part of a text between two offsets; nothing where there is none
 abbrev pub part : List ℕ → ℕ → ℕ → List ℕ
@@ -27,4 +27,4 @@ or_zero (Some i) = i
 
 -- A number is what its slice spells, blanks aside (X.680 12.8, 19.9).
 abbrev pub number_of : List ℕ → Node → ℤ
-number_of text n = or_zero (whole_number (part text (out-Node n).start (out-Node n).end))
+number_of text n = or_zero (number (bare (part text (out-Node n).start (out-Node n).end)))

@@ -7,7 +7,7 @@ ghost use Rattle.std.specs.Prelude.{◌≡◌, IfOk, []};
 use crate::parts::{end_of_first, part_of, read_child_name};
 use crate::types::read_type;
 use asn_memory::{List, Mem, Text};
-use asn_rules::node::Node;
+use asn_rules::{Node, names};
 use asn_tree::{
     ASN1Type, Boolean, ExtensibilityEnvironment, ModuleReference, Reading, TaggingEnvironment,
     ToplevelDefinition, ToplevelTypeDefinition,
@@ -29,8 +29,8 @@ fn read_environment(text: &[u8], node: &Node) -> TaggingEnvironment
 fn read_environments(text: &[u8], node: &Node) -> TaggingEnvironment
     ensures { result ≡ environment_in text.now node.now }
 {
-    match node.child(167) {
-        Some(environments) => match environments.child(166) {
+    match node.child(names::ENVIRONMENTS) {
+        Some(environments) => match environments.child(names::TAG_DEFAULT) {
             Some(environment) => read_environment(text, environment),
             None => TaggingEnvironment::Explicit,
         },
@@ -57,7 +57,7 @@ fn header(alloc: Global, name: Text, tagging_environment: TaggingEnvironment) ->
 fn read_header(alloc: Global, text: &[u8], node: &Node) -> Mem<ModuleReference>
     ensures { IfOk result (λ h. h ≡ header_of text.now node.now) }
 {
-    let name = read_child_name(alloc, text, node, 8)?;
+    let name = read_child_name(alloc, text, node, names::IDENTIFIER)?;
     Ok(header(alloc, name, read_environments(text, node)))
 }
 
@@ -65,7 +65,7 @@ fn read_header(alloc: Global, text: &[u8], node: &Node) -> Mem<ModuleReference>
 fn read_child_header(alloc: Global, text: &[u8], node: &Node) -> Mem<ModuleReference>
     ensures { IfOk result (λ h. h ≡ at_child (child_of node.now 176) no_header (header_of text.now)) }
 {
-    match node.child(176) {
+    match node.child(names::MODULE_REFERENCE) {
         Some(header) => read_header(alloc, text, header),
         None => Ok(header(
             alloc,
@@ -104,7 +104,7 @@ fn read_declaration(alloc: Global, text: &[u8], node: &Node) -> Mem<ToplevelDefi
 {
     match node.children.as_slice() {
         [_, _, ty] => {
-            let name = read_child_name(alloc, text, node, 9)?;
+            let name = read_child_name(alloc, text, node, names::TITLE_CASE_IDENTIFIER)?;
             let ty = read_type(alloc, text, ty)?;
             definition(alloc, name, ty)
         }
@@ -116,7 +116,7 @@ fn read_declaration(alloc: Global, text: &[u8], node: &Node) -> Mem<ToplevelDefi
 fn read_definition(alloc: Global, text: &[u8], node: &Node) -> Mem<ToplevelDefinition>
     ensures { IfOk result (λ d. d ≡ definition_of text.now node.now) }
 {
-    match node.child(185) {
+    match node.child(names::TOP_LEVEL_TYPE_DECLARATION) {
         Some(declaration) => read_declaration(alloc, text, declaration),
         None => nothing_defined(alloc),
     }
@@ -131,7 +131,7 @@ fn read_definitions(
 {
     let mut definitions = List::new(alloc);
     for node in nodes {
-        if node.rule == 188 {
+        if node.rule == names::DEFINITION {
             definitions.add(read_definition(alloc, text, node)?)?;
         }
     }
@@ -157,7 +157,7 @@ pub(crate) fn read_modules(alloc: Global, text: &[u8], nodes: &[Node]) -> Mem<Re
 {
     let mut modules = List::new(alloc);
     for node in nodes {
-        if node.rule == 189 {
+        if node.rule == names::ASN_MODULE {
             modules.add(read_module(alloc, text, node)?)?;
         }
     }

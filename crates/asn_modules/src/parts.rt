@@ -5,7 +5,7 @@ ghost use Rattle.asn_rules.specs.Nodes.{at_child, child_of};
 ghost use Rattle.std.specs.Prelude.{◌≡◌, ◌≤◌, IfOk, [], length};
 
 use asn_memory::{Mem, Text};
-use asn_rules::node::Node;
+use asn_rules::Node;
 use std::alloc::Global;
 
 /// The part of the text between two offsets; nothing where there is none.

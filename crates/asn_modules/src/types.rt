@@ -6,7 +6,7 @@ ghost use Rattle.std.specs.Prelude.{◌≡◌, IfOk, [], ◌∷◌};
 
 use crate::parts::{read_child_name, read_number};
 use asn_memory::{List, Mem, Text};
-use asn_rules::node::Node;
+use asn_rules::{Node, names};
 use asn_tree::{
     ASN1Type, ASN1Value, Boolean, Constraint, DeclarationElsewhere, ElementOrSetOperation,
     ElementSet, Integer, SequenceOrSet, SequenceOrSetMember, SubtypeElement,
@@ -33,7 +33,7 @@ fn range(least: i128, greatest: i128) -> Constraint
 fn read_constraint(text: &[u8], node: &Node) -> Constraint
     ensures { result ≡ constraint_of text.now node.now }
 {
-    match node.child(133) {
+    match node.child(names::VALUE_RANGE) {
         Some(values) => match values.children.as_slice() {
             [least, _, greatest] => range(read_number(text, least), read_number(text, greatest)),
             _ => range(0, 0),
@@ -46,7 +46,7 @@ fn read_constraint(text: &[u8], node: &Node) -> Constraint
 fn read_integer(alloc: Global, text: &[u8], node: &Node) -> Mem<ASN1Type>
     ensures { IfOk result (λ t. t ≡ integer_of text.now node.now) }
 {
-    let constraints = match node.child(102) {
+    let constraints = match node.child(names::CONSTRAINT) {
         Some(constraint) => List::of(alloc, read_constraint(text, constraint))?,
         None => List::new(alloc),
     };
@@ -70,7 +70,7 @@ fn read_reference(alloc: Global, text: &[u8], node: &Node) -> Mem<ASN1Type>
 {
     Ok(ASN1Type::ElsewhereDeclaredType(DeclarationElsewhere {
         parent: None,
-        identifier: read_child_name(alloc, text, node, 9)?,
+        identifier: read_child_name(alloc, text, node, names::TITLE_CASE_IDENTIFIER)?,
         constraints: List::new(alloc),
     }))
 }
@@ -82,10 +82,10 @@ pub(crate) fn read_type(alloc: Global, text: &[u8], node: &Node) -> Mem<ASN1Type
     ensures { IfOk result (λ t. t ≡ type_of text.now node.now) }
 {
     match node.rule {
-        60 => read_sequence(alloc, text, node),
-        85 => read_integer(alloc, text, node),
-        100 => read_reference(alloc, text, node),
-        101 => read_first_type(alloc, text, node),
+        names::SEQUENCE => read_sequence(alloc, text, node),
+        names::INTEGER => read_integer(alloc, text, node),
+        names::ELSEWHERE_DECLARED_TYPE => read_reference(alloc, text, node),
+        names::ASN1_TYPE => read_first_type(alloc, text, node),
         _ => Ok(boolean(alloc)),
     }
 }
@@ -129,7 +129,7 @@ fn sequence(alloc: Global, members: List<SequenceOrSetMember>) -> ASN1Type
 fn read_sequence(alloc: Global, text: &[u8], node: &Node) -> Mem<ASN1Type>
     ensures { IfOk result (λ t. t ≡ sequence_of text.now node.now) }
 {
-    match node.child(62) {
+    match node.child(names::STRUCT_BODY) {
         Some(body) => Ok(sequence(alloc, read_body(alloc, text, body)?)),
         None => Ok(sequence(alloc, List::new(alloc))),
     }
@@ -141,7 +141,7 @@ fn read_sequence(alloc: Global, text: &[u8], node: &Node) -> Mem<ASN1Type>
 fn read_body(alloc: Global, text: &[u8], node: &Node) -> Mem<List<SequenceOrSetMember>>
     ensures { IfOk result (λ ms. ms ≡ body_of text.now node.now) }
 {
-    match node.child(64) {
+    match node.child(names::COMPONENT_LIST) {
         Some(list) => read_components(alloc, text, list),
         None => Ok(List::new(alloc)),
     }
@@ -166,7 +166,7 @@ fn read_component_list(
 {
     let mut members = List::new(alloc);
     for node in nodes {
-        if node.rule == 69 {
+        if node.rule == names::SEQUENCE_COMPONENT {
             members.add(read_component(alloc, text, node)?)?;
         }
     }
@@ -179,7 +179,7 @@ fn read_component_list(
 fn read_component(alloc: Global, text: &[u8], node: &Node) -> Mem<SequenceOrSetMember>
     ensures { IfOk result (λ m. m ≡ component_of text.now node.now) }
 {
-    match node.child(70) {
+    match node.child(names::SEQUENCE_OR_SET_MEMBER) {
         Some(member) => read_member(alloc, text, member),
         None => Ok(member(alloc, Text::new(alloc, "")?, boolean(alloc))),
     }
@@ -206,7 +206,7 @@ fn member(alloc: Global, name: Text, ty: ASN1Type) -> SequenceOrSetMember
 fn read_member(alloc: Global, text: &[u8], node: &Node) -> Mem<SequenceOrSetMember>
     ensures { IfOk result (λ m. m ≡ member_of text.now node.now) }
 {
-    let name = read_child_name(alloc, text, node, 8)?;
-    let ty = read_child_type(alloc, text, node, 101)?;
+    let name = read_child_name(alloc, text, node, names::IDENTIFIER)?;
+    let ty = read_child_type(alloc, text, node, names::ASN1_TYPE)?;
     Ok(member(alloc, name, ty))
 }

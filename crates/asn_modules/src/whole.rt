@@ -9,8 +9,7 @@ ghost use Rattle.asn_tree.specs.declared.headers.ModuleReference.{ModuleReferenc
 ghost use Rattle.std.specs.Prelude.{◌≡◌, ◌≤◌, ℕ, List as Sequence, Err, IfOk};
 
 use crate::modules::read_modules;
-use asn_rules::rules::{RuleId, derive_rule, one_tree};
-use asn_rules::run::MatchFault;
+use asn_rules::{Grammar, MatchFault, RuleId, derive_rule, names, one_tree};
 use asn_tree::Reading;
 use std::alloc::Global;
 
@@ -36,7 +35,14 @@ pub fn asn_spec(alloc: Global, source: &str, depth: usize) -> Result<Reading, Sp
     ensures matching { result ≡ Err fault.Matching → Fails first source.now depth }
     ensures deep { result ≡ Err fault.TooDeep → IsDeeper first source.now depth }
 {
-    match derive_rule(alloc, source, RuleId { number: 190 }, 0, depth) {
+    match derive_rule(
+        alloc,
+        Grammar::First,
+        source,
+        RuleId::new(names::ASN_SPEC),
+        0,
+        depth,
+    ) {
         Ok(Some(node)) => match read_modules(alloc, source.as_bytes(), node.children.as_slice()) {
             Ok(reading) => Ok(reading),
             Err(_) => Err(SpecError::OutOfMemory),
