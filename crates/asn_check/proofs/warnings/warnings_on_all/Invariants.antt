@@ -1,0 +1,7 @@
+use Rattle.std.proofs.Common.{◌≡◌, ◌++◌, drop, map}
+use Rattle.asn_check.specs.Warnings.{said_by, warnings_of}
+use Rattle.asn_names.specs.Definitions.{name_of}
+use Rattle.asn_check.proofs.warnings.warnings_on_all.Given as goal
+
+abbrev pub invariant-loop-definition : goal.invariant-loop-definition
+invariant-loop-definition l = map said_by l.warnings ++ warnings_of l.names.definitions.now (map name_of (drop l.definition-index l.definitions)) ≡ warnings_of l.names.definitions.now (map name_of l.definitions)

@@ -1,0 +1,52 @@
+-- The warnings of a linked answer.
+use Rattle.std.specs.Prelude.{ℕ, List, [], ◌∷◌, ◌++◌, Option, Some, None, Bool, if◌then◌else◌}
+use Rattle.asn_tree.specs.declared.definitions.ToplevelDefinition.{ToplevelDefinition}
+use Rattle.asn_tree.specs.declared.errors.GrammarErrorType.{GrammarErrorType}
+use Rattle.asn_tree.specs.declared.errors.LinkerError.{LinkerError}
+use Rattle.asn_tree.specs.declared.errors.LinkerErrorType.{LinkerErrorType}
+use Rattle.asn_tree.specs.declared.errors.LinkerErrorType.TheVariants as kind
+use Rattle.asn_names.specs.declared.faults.Fault.{Fault}
+use Rattle.asn_names.specs.declared.faults.Fault.TheVariants.{MissingDependency}
+use Rattle.asn_names.specs.Definitions.{Definitions, see, is_duplicate}
+use Rattle.asn_names.specs.Faults.{fault_of}
+
+-- what a warning says, its words aside
+pub record Warning : Type 0 where
+  pub name : Option (List ℕ)
+  pub kind : LinkerErrorType
+  pub grammar : Option GrammarErrorType
+
+abbrev pub said_by : LinkerError → Warning
+said_by w = record { name = w.pdu; kind = w.kind; grammar = w.grammar }
+
+abbrev pub warning : List ℕ → LinkerErrorType → Warning
+warning name k = record { name = Some name; kind = k; grammar = None }
+
+abbrev pub kind_of : Fault → LinkerErrorType
+kind_of MissingDependency = kind.MissingDependency
+
+-- of the fault of the definition that stands for the name, where there is one
+abbrev pub of_fault : List ℕ → Option Fault → List Warning
+of_fault name None = []
+of_fault name (Some f) = warning name (kind_of f) ∷ []
+
+abbrev pub of_duplicate : List ℕ → Bool → List Warning
+of_duplicate name several = if several then warning name kind.Duplicate ∷ [] else []
+
+abbrev pub fault_at : Definitions → Option ToplevelDefinition → Option Fault
+fault_at defs None = None
+fault_at defs (Some d) = fault_of defs d
+
+-- the fault of the definition that stands for the name
+abbrev pub fault_on : Definitions → List ℕ → Option Fault
+fault_on defs name = fault_at defs (see defs name)
+
+-- All warnings on a name: the fault of the definition that stands for it, then that others of the name stand before it.
+abbrev pub warnings_on : Definitions → List ℕ → List Warning
+warnings_on defs name =
+    of_fault name (fault_on defs name) ++ of_duplicate name (is_duplicate defs name)
+
+-- all warnings, name by name
+abbrev pub warnings_of : Definitions → List (List ℕ) → List Warning
+warnings_of defs [] = []
+warnings_of defs (name ∷ names) = warnings_on defs name ++ warnings_of defs names

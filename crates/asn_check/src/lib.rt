@@ -1,0 +1,15 @@
+//! The linked answer of a reading: its definitions in byte order of names, its warnings, and its listing.
+//!
+//! It stands on the readers, the names and the copies. The layer above calls `link_reading` and `listing` alone.
+#![tactic(auto)]
+
+mod given;
+mod lines;
+mod link;
+mod linked;
+mod types;
+mod warnings;
+
+pub use lines::listing;
+pub use link::link_reading;
+pub use linked::Linked;

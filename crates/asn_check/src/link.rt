@@ -1,0 +1,59 @@
+//! Linking a reading.
+
+ghost use Rattle.asn_check.specs.Warnings.{said_by, warnings_of};
+ghost use Rattle.asn_names.specs.Definitions.{IsStanding, name_of};
+ghost use Rattle.asn_names.specs.Kept.{given_definitions};
+ghost use Rattle.std.specs.Prelude.{◌≡◌, IfOk, map};
+
+use crate::given::give_reading;
+use crate::linked::Linked;
+use crate::warnings::warnings_on_all;
+use asn_copy::{copy_module_reference, copy_toplevel_definition};
+use asn_memory::{List, Mem};
+use asn_names::Names;
+use asn_tree::{ModuleReference, Reading, ToplevelDefinition};
+use std::alloc::Global;
+
+/// Copies of these definitions, in their order.
+fn copy_each(alloc: Global, definitions: &[&ToplevelDefinition]) -> Mem<List<ToplevelDefinition>>
+    ensures { IfOk result (λ ds. ds ≡ map (λ d. d.now) definitions.now) }
+{
+    let mut copies = List::new(alloc);
+    for definition in definitions {
+        copies.add(copy_toplevel_definition(alloc, definition)?)?;
+    }
+    Ok(copies)
+}
+
+/// Copies of the headers of a reading, in their order.
+fn copy_headers(alloc: Global, reading: &Reading) -> Mem<List<ModuleReference>>
+    ensures { IfOk result (λ hs. hs ≡ map (λ m. m.0) reading.now) }
+{
+    let mut headers = List::new(alloc);
+    for item in reading.as_slice() {
+        headers.add(copy_module_reference(alloc, &item.0)?)?;
+    }
+    Ok(headers)
+}
+
+/// The linked answer of a reading. In this part of the notation linking changes no type: each definition is given as
+/// read, with its numbers and its module's tagging environment.
+///
+/// The work grows as n log n with the size of the reading.
+pub fn link_reading(alloc: Global, reading: &Reading) -> Mem<Linked>
+    ensures modules { IfOk result (λ linked. linked.modules ≡ map (λ m. m.0) reading.now) }
+    ensures definitions { IfOk result (λ linked. IsStanding (given_definitions reading.now) linked.definitions) }
+    ensures warnings { IfOk result (λ linked. map said_by linked.warnings ≡ warnings_of (given_definitions reading.now) (map name_of linked.definitions)) }
+{
+    let given = give_reading(alloc, reading)?;
+    let names = Names::new(alloc, &given)?;
+    let standing = names.standing(alloc)?;
+    let definitions = copy_each(alloc, standing.as_slice())?;
+    let warnings = warnings_on_all(alloc, &names, definitions.as_slice())?;
+    let modules = copy_headers(alloc, reading)?;
+    Ok(Linked {
+        modules,
+        definitions,
+        warnings,
+    })
+}

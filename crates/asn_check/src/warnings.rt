@@ -1,0 +1,115 @@
+//! The warnings of a linked answer.
+
+ghost use Rattle.asn_check.specs.Warnings.{fault_on, kind_of, of_duplicate, of_fault, said_by, warning, warnings_of, warnings_on};
+ghost use Rattle.asn_names.specs.Definitions.{name_of};
+ghost use Rattle.std.specs.Prelude.{◌≡◌, ◌++◌, IfOk, OnOk, map};
+
+use asn_copy::copy_text;
+use asn_memory::{List, Mem, Text};
+use asn_names::{Fault, Names, name_of_definition};
+use asn_tree::{LinkerError, LinkerErrorType, ToplevelDefinition};
+use std::alloc::Global;
+
+/// A warning of this kind on this name.
+fn warn(alloc: Global, name: &Text, kind: LinkerErrorType) -> Mem<LinkerError>
+    ensures { IfOk result (λ w. said_by w ≡ warning name.now kind) }
+{
+    Ok(LinkerError {
+        pdu: Some(copy_text(alloc, name)?),
+        details: details_of(kind),
+        kind,
+        grammar: None,
+    })
+}
+
+/// What is wrong, in words.
+fn details_of(kind: LinkerErrorType) -> &'static str {
+    match kind {
+        LinkerErrorType::MissingDependency => "a name has no definition of the kind that its place needs",
+        LinkerErrorType::InvalidConstraintsError => "a range's minimum is above its maximum",
+        LinkerErrorType::Unknown => "a form that is not linked",
+        LinkerErrorType::Cycle => "the definition needs itself",
+        LinkerErrorType::Argument => "an argument is missing or of the wrong kind",
+        LinkerErrorType::Duplicate => "several definitions have the name; the last of them stands",
+    }
+}
+
+/// The kind of the warning that tells a fault.
+fn kind_of_fault(fault: Fault) -> LinkerErrorType
+    ensures { result ≡ kind_of fault }
+{
+    match fault {
+        Fault::MissingDependency => LinkerErrorType::MissingDependency,
+    }
+}
+
+/// Adds the warning of the fault of the definition that stands for the name, if there is one.
+fn warn_of_fault(
+    alloc: Global,
+    warnings: &mut List<LinkerError>,
+    name: &Text,
+    fault: Option<Fault>,
+) -> Mem<()>
+    ensures { OnOk result (map said_by warnings.new ≡ map said_by warnings.old ++ of_fault name.now fault) }
+{
+    match fault {
+        Some(fault) => warnings.add(warn(alloc, name, kind_of_fault(fault))?),
+        None => Ok(()),
+    }
+}
+
+/// The fault of the definition that stands for the name.
+fn standing_fault(names: &Names<'_>, name: &str) -> Option<Fault>
+    ensures { result ≡ fault_on names.now.definitions.now name.now }
+{
+    match names.see(name) {
+        Some(definition) => names.fault(definition),
+        None => None,
+    }
+}
+
+/// Adds Duplicate on the name, where several definitions have it.
+fn warn_of_duplicate(
+    alloc: Global,
+    warnings: &mut List<LinkerError>,
+    name: &Text,
+    several: bool,
+) -> Mem<()>
+    ensures { OnOk result (map said_by warnings.new ≡ map said_by warnings.old ++ of_duplicate name.now several) }
+{
+    if several {
+        warnings.add(warn(alloc, name, LinkerErrorType::Duplicate)?)
+    } else {
+        Ok(())
+    }
+}
+
+/// Adds all warnings on a name.
+fn warn_on(
+    alloc: Global,
+    warnings: &mut List<LinkerError>,
+    names: &Names<'_>,
+    name: &Text,
+) -> Mem<()>
+    ensures { OnOk result (map said_by warnings.new ≡ map said_by warnings.old ++ warnings_on names.now.definitions.now name.now) }
+{
+    let fault = standing_fault(names, name.as_str());
+    warn_of_fault(alloc, warnings, name, fault)?;
+    let several = names.is_duplicate(name.as_str());
+    warn_of_duplicate(alloc, warnings, name, several)
+}
+
+/// All warnings on the names of these definitions, in their order.
+pub(crate) fn warnings_on_all(
+    alloc: Global,
+    names: &Names<'_>,
+    definitions: &[ToplevelDefinition],
+) -> Mem<List<LinkerError>>
+    ensures { IfOk result (λ ws. map said_by ws ≡ warnings_of names.now.definitions.now (map name_of definitions.now)) }
+{
+    let mut warnings = List::new(alloc);
+    for definition in definitions {
+        warn_on(alloc, &mut warnings, names, name_of_definition(definition))?;
+    }
+    Ok(warnings)
+}
