@@ -25,8 +25,8 @@ gives_more before between after text piece one more =
 front_of : (most : ℕ) (text rest : List ℕ) → length text ≤ most → (length text < most → rest ≡ []) → text ≡ take most (text ++ rest)
 front_of most text rest bounded end =
     elim (eq-or-lt_of_le bounded) as (λ _. text ≡ take most (text ++ rest)) [
-      inl same ↦ rw (← same) (sym (take-append_seam text rest))
-    | inr less ↦ rw (end less, append-nil text) (sym (take_all most text bounded))
+      | inl same ↦ rw (← same) (sym (take-append_seam text rest))
+      | inr less ↦ rw (end less, append-nil text) (sym (take_all most text bounded))
     ]
 
 -- the same, where the source tells what is left

@@ -19,3 +19,5 @@ pub use status::{Status, error_line};
 pub use sure::{SureSink, SureSource};
 pub use taking::{LIMIT, TakeFault, take_text};
 
+#[cfg(test)]
+mod tests;

@@ -55,7 +55,11 @@ pub fn take_text<S: Source>(alloc: Global, source: &mut S) -> Result<List<u8>, T
 
 // The same with another limit.
 #[tactic(auto, using(crate::proofs::Given::gives_none, crate::proofs::Given::gives_more, crate::proofs::Given::text_is_front))]
-fn take_at_most<S: Source>(alloc: Global, source: &mut S, most: usize) -> Result<List<u8>, TakeFault>
+fn take_at_most<S: Source>(
+    alloc: Global,
+    source: &mut S,
+    most: usize,
+) -> Result<List<u8>, TakeFault>
     ensures taken { IfOk result (λ text. Gives (S.left source.old) text (S.left source.new)) }
     ensures bounded { IfOk result (λ text. length text ≤ most) }
     ensures end { IfOk result (λ text. length text < most → IsAtEnd (S.left source.new)) }
