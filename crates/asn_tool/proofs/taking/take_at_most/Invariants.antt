@@ -1,4 +1,4 @@
-use Rattle.std.proofs.Common.{◌<◌, ◌≤◌, ◌-◌, ℕ, length}
+use Rattle.std.proofs.Common.{◌<◌, ◌≤◌, ◌-◌, length}
 use Rattle.asn_tool.specs.Source.{Gives}
 use Rattle.asn_tool.proofs.taking.take_at_most.Given as goal
 
