@@ -2,7 +2,6 @@
 //!
 //! It stands on `source` alone; the program's run calls it once, before anything is made of the text.
 
-ghost use Rattle.asn_memory.specs.declared.memory.OutOfMemory.{OutOfMemory as NoMemory};
 ghost use Rattle.asn_tool.specs.Faults.{HasCause};
 ghost use Rattle.asn_tool.specs.Source.{Gives};
 ghost use Rattle.asn_tool.specs.Taking.{limit, LosesFront};

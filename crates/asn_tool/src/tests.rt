@@ -1,7 +1,5 @@
 //! Each public call once, and the outside failing in mid-stream.
 
-ghost use Rattle.std.specs.Prelude.{◌≡◌, ◌<◌, ◌≤◌, ◌+◌, ◌∷◌, [], IfOk};
-
 use crate::{
     LIMIT, Sink, SinkFailed, Source, SourceFailed, Status, StdSink, StdSource, SureSink,
     SureSource, TakeFault, error_line, give_all, take_text,
