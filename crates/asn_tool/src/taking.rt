@@ -52,7 +52,7 @@ pub fn take_text<S: Source>(alloc: Global, source: &mut S) -> Result<List<u8>, T
     take_at_most(alloc, source, LIMIT)
 }
 
-// The same with another limit.
+// The same up to any length.
 #[tactic(auto, using(crate::proofs::Given::gives_none, crate::proofs::Given::gives_more, crate::proofs::Given::text_is_front))]
 fn take_at_most<S: Source>(
     alloc: Global,
@@ -95,7 +95,8 @@ fn take_piece<S: Source>(
 ) -> Result<usize, TakeFault>
     requires room { 0 < length buffer.old }
     requires wanted { length text.old < most }
-    ensures taken { OnOk result ((piece : _) × (text.new ≡ text.old ++ piece) × Gives (S.left source.old) piece (S.left source.new)) }
+    ensures taken { OnOk result ((piece : _) × (text.new ≡ text.old ++ piece)
+        × Gives (S.left source.old) piece (S.left source.new)) }
     ensures grown { IfOk result (λ n. length text.new ≡ length text.old + n) }
     ensures bounded { OnOk result (length text.new ≤ most) }
     ensures end { IfOk result (λ n. n ≡ 0 → IsAtEnd (S.left source.new)) }
