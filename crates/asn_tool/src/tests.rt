@@ -1,0 +1,152 @@
+//! Each public call once, and the outside failing in mid-stream.
+
+use crate::{
+    LIMIT, Sink, SinkFailed, Source, SourceFailed, Status, StdSink, StdSource, SureSink,
+    SureSource, TakeFault, error_line, give_all, take_text,
+};
+use std::alloc::{AllocError, Global};
+use std::test::Fail;
+
+// A source that gives one byte and then fails.
+#[derive(Drop)]
+struct OneByteThenFailure {
+    calls: u64,
+    faults: u64,
+}
+
+impl Source for OneByteThenFailure {
+    ghost use Rattle.std.specs.Prelude.{None};
+
+    ghost left = { λ _. None };
+
+    ghost faults = { λ s. s.faults };
+
+    fn read(&mut self, buf: &mut [u8]) -> Result<usize, SourceFailed> {
+        self.calls = self.calls.saturating_add(1);
+        if self.calls == 2 {
+            self.faults = self.faults.saturating_add(1);
+            return Err(SourceFailed);
+        }
+        buf[0] = b'A';
+        Ok(1)
+    }
+}
+
+// A sink that takes one byte and then fails.
+#[derive(Drop)]
+struct OneByteOnly {
+    taken: Option<u8>,
+    faults: u64,
+}
+
+impl Sink for OneByteOnly {
+    ghost use Rattle.std.specs.Prelude.{List, ℕ, Some, option_to_list};
+
+    ghost written = { λ s. Some (option_to_list s.taken) };
+
+    ghost faults = { λ s. s.faults };
+
+    fn write(&mut self, piece: &[u8]) -> Result<usize, SinkFailed> {
+        if self.taken.is_some() {
+            self.faults = self.faults.saturating_add(1);
+            return Err(SinkFailed);
+        }
+        self.taken = Some(piece[0]);
+        Ok(1)
+    }
+}
+
+fn sevens(alloc: Global, count: usize) -> Result<Vec<u8>, AllocError> {
+    vec![in alloc; 7; count]
+}
+
+#[test]
+fn a_short_text_is_taken_whole(rt: HostRuntime) -> Result<(), Fail> {
+    let alloc = rt.alloc();
+    for text in [b"".as_slice(), b"A ::= NULL".as_slice()] {
+        let taken = take_text(alloc, &mut SureSource::new(text)).expect(&rt, "a text");
+        assert_eq!(rt; taken.as_slice(), text);
+    }
+    Ok(())
+}
+
+#[test]
+fn no_more_than_the_limit_is_taken(rt: HostRuntime) -> Result<(), Fail> {
+    let alloc = rt.alloc();
+    for (count, want, left) in [
+        (2_097_152, 2_097_152, 0),
+        (2_097_153, 2_097_153, 0),
+        (2_097_154, 2_097_153, 1),
+    ] {
+        let bytes = sevens(alloc, count)?;
+        let mut source = SureSource::new(bytes.as_slice());
+        let taken = take_text(alloc, &mut source).expect(&rt, "a text");
+        assert_eq!(rt; taken.len(), want, "of {count}");
+        assert_eq!(rt; source.read(&mut [0, 0]), Ok(left), "of {count}");
+    }
+    assert_eq!(rt; LIMIT, 2_097_153);
+    Ok(())
+}
+
+#[test]
+fn a_failed_read_ends_the_reading(rt: HostRuntime) -> Result<(), Fail> {
+    let mut source = OneByteThenFailure {
+        calls: 0,
+        faults: 0,
+    };
+    let outcome = take_text(rt.alloc(), &mut source).err();
+    assert_eq!(rt; outcome, Some(TakeFault::Failed));
+    assert_eq!(rt; source.calls, 2);
+    Ok(())
+}
+
+#[test]
+fn a_sink_tells_what_fits(rt: HostRuntime) -> Result<(), Fail> {
+    let alloc = rt.alloc();
+    let mut sink = SureSink::new(alloc, 4).expect(&rt, "room");
+    assert_eq!(rt; give_all(&mut sink, b"AB"), Ok(()));
+    assert_eq!(rt; give_all(&mut sink, b"CD"), Ok(()));
+    assert_eq!(rt; sink.bytes(), Some(b"ABCD".as_slice()));
+    assert_eq!(rt; give_all(&mut sink, b"E"), Ok(()));
+    assert_eq!(rt; sink.bytes(), None);
+    Ok(())
+}
+
+#[test]
+fn a_failed_write_ends_the_writing(rt: HostRuntime) -> Result<(), Fail> {
+    let mut sink = OneByteOnly {
+        taken: None,
+        faults: 0,
+    };
+    assert_eq!(rt; give_all(&mut sink, b"type"), Err(SinkFailed));
+    assert_eq!(rt; sink.taken, Some(b't'));
+    assert_eq!(rt; sink.faults, 1);
+    Ok(())
+}
+
+#[test]
+fn readers_and_writers_of_std_serve(rt: HostRuntime) -> Result<(), Fail> {
+    let alloc = rt.alloc();
+    let text = b"A ::= NULL".as_slice();
+    let taken = take_text(alloc, &mut StdSource::new(text)).expect(&rt, "a text");
+    assert_eq!(rt; taken.as_slice(), text);
+    let mut written = Vec::new(alloc);
+    assert_eq!(rt; give_all(&mut StdSink::new(&mut written), text), Ok(()));
+    assert_eq!(rt; written.as_slice(), text);
+    // An array of two bytes takes no third: its writer writes nothing then.
+    let mut room = [0; 2];
+    assert_eq!(rt;
+        give_all(&mut StdSink::new(room.as_mut_slice()), text),
+        Err(SinkFailed)
+    );
+    assert_eq!(rt; room, *b"A ");
+    Ok(())
+}
+
+#[test]
+fn statuses_have_their_numbers_and_lines(rt: HostRuntime) -> Result<(), Fail> {
+    assert_eq!(rt; Status::Usage.number(), 8);
+    assert_eq!(rt; error_line(Status::Usage), Some("error usage\n"));
+    assert_eq!(rt; error_line(Status::Clean), None);
+    Ok(())
+}
