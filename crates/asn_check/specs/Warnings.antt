@@ -42,7 +42,7 @@ abbrev pub fault_on : Definitions → List ℕ → Option Fault
 fault_on defs name = fault_at defs (see defs name)
 
 -- All warnings on a name: the fault of the definition that stands for it, then that others of the name stand before it.
-abbrev pub warnings_on : Definitions → List ℕ → List Warning
+unfoldable pub warnings_on : Definitions → List ℕ → List Warning
 warnings_on defs name =
     of_fault name (fault_on defs name) ++ of_duplicate name (is_duplicate defs name)
 

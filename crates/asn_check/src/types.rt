@@ -1,7 +1,7 @@
 //! The text of types, their members and their constraints.
 
-ghost use Rattle.asn_tree.specs.Listing.{constraint_text, constraints_text, element_text, end_text, member_text, separated, set_text, struct_text, type_text, value_text, when};
-ghost use Rattle.std.specs.Prelude.{◌≡◌, ◌++◌, OnOk, codes, map};
+ghost use Rattle.asn_tree.specs.Listing.{constraint_text, constraints_text, element_text, end_text, lead, member_text, separated, set_text, struct_text, type_text, value_text, when};
+ghost use Rattle.std.specs.Prelude.{◌≡◌, ◌++◌, OnOk, map, true};
 
 use asn_memory::{Mem, Text};
 use asn_tree::{
@@ -131,16 +131,23 @@ fn write_struct(alloc: Global, out: &mut Text, sequence: &SequenceOrSet) -> Mem<
     write_constraints(alloc, out, sequence.constraints.as_slice())
 }
 
+/// What stands before the first member, and before each further one.
+fn lead_of(is_first: bool) -> &'static str
+    ensures { result.now ≡ lead is_first }
+{
+    if is_first { " { " } else { ", " }
+}
+
 /// Members, the first behind a brace and each further one behind a comma.
 #[cycle(writing)]
 fn write_members(alloc: Global, out: &mut Text, members: &[SequenceOrSetMember]) -> Mem<()>
-    ensures { OnOk result (out.new ≡ out.old ++ separated (codes " { ") (map member_text members.now)) }
+    ensures { OnOk result (out.new ≡ out.old ++ separated true (map member_text members.now)) }
 {
-    let mut lead = " { ";
+    let mut is_first = true;
     for member in members {
-        out.push_str(lead)?;
+        out.push_str(lead_of(is_first))?;
         write_member(alloc, out, member)?;
-        lead = ", ";
+        is_first = false;
     }
     Ok(())
 }

@@ -85,6 +85,7 @@ fn warn_of_duplicate(
 }
 
 /// Adds all warnings on a name.
+#[tactic(auto, unfolding(crate::specs::Warnings::warnings_on))]
 fn warn_on(
     alloc: Global,
     warnings: &mut List<LinkerError>,

@@ -1,5 +1,5 @@
 -- The text of a linked answer: a line for each definition, then a line for each warning.
-use Rattle.std.specs.Prelude.{ℕ, ℤ, List, [], ◌∷◌, ◌++◌, map, Option, Some, None, Bool, codes, if◌then◌else◌}
+use Rattle.std.specs.Prelude.{ℕ, ℤ, List, [], ◌∷◌, ◌++◌, map, Option, Some, None, Bool, true, false, codes, if◌then◌else◌}
 use Rattle.std.specs.Fmt.{signed_decimal}
 use Rattle.asn_tree.specs.declared.constraints.Constraint.{Constraint}
 use Rattle.asn_tree.specs.declared.constraints.Constraint.TheVariants.{SubtypeConstraint}
@@ -20,10 +20,14 @@ use Rattle.asn_tree.specs.declared.values.ASN1Value.TheVariants.{Integer}
 abbrev pub Letters : Type 0
 Letters = List ℕ
 
--- texts, the first behind the lead and each further one behind a comma
-abbrev pub separated : Letters → List Letters → Letters
-separated lead [] = []
-separated lead (x ∷ xs) = lead ++ x ++ separated (codes ", ") xs
+-- what stands before the first text between braces, and before each further one
+abbrev pub lead : Bool → Letters
+lead true = codes " { "
+lead false = codes ", "
+
+abbrev pub separated : Bool → List Letters → Letters
+separated first [] = []
+separated first (x ∷ xs) = lead first ++ x ++ separated false xs
 
 abbrev pub value_text : ASN1Value → Letters
 value_text (Integer i) = signed_decimal i
@@ -54,7 +58,7 @@ constraints_text (c ∷ cs) = constraint_text c ++ constraints_text cs
 -- members between braces; none: braces alone
 abbrev pub braces : List Letters → Letters
 braces [] = codes " {}"
-braces (x ∷ xs) = separated (codes " { ") (x ∷ xs) ++ codes " }"
+braces (x ∷ xs) = separated true (x ∷ xs) ++ codes " }"
 
 -- one level of a type, where the parts have these texts
 abbrev pub type_line : ASN1Type-F Letters Letters Letters → Letters
