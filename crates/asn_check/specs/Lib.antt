@@ -1,2 +1,3 @@
 pub mod Warnings
+pub mod Linked
 pub mod Listing

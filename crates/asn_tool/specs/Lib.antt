@@ -6,3 +6,5 @@ pub mod Standard
 pub mod Status
 pub mod Sure
 pub mod Taking
+pub mod Run
+pub mod Due

@@ -1,17 +1,25 @@
-//! The outside of the program: where bytes come from and go to, the two loops over them, and the statuses.
+//! The program: the words, the source and the sink, and `run`, which takes a text from the one to the other.
 //!
-//! The topmost room: it stands on asn_memory, and knows nothing of ASN.1.
+//! The topmost room. One module for each side of the outside: `source` and `sink` are what a run is given, `sure` and
+//! `standard` are such things, `taking` and `giving` are the two loops over them; `judging` is what stands between.
 #![tactic(auto)]
 
+mod ended;
 mod giving;
+mod judging;
+mod running;
 mod sink;
 mod source;
 mod standard;
 mod status;
 mod sure;
 mod taking;
+mod words;
 
+pub use ended::Ended;
 pub use giving::give_all;
+pub use judging::LONGEST;
+pub use running::run;
 pub use sink::{Sink, SinkFailed};
 pub use source::{Source, SourceFailed};
 pub use standard::{StdSink, StdSource};
