@@ -6,11 +6,11 @@ use Rattle.asn_tree.specs.declared.headers.AsnTag.{AsnTag}
 use Rattle.asn_tree.specs.declared.headers.TaggingEnvironment.{TaggingEnvironment}
 use Rattle.asn_tree.specs.declared.headers.TaggingEnvironment.TheVariants.{Automatic, Implicit, Explicit}
 use Rattle.asn_tree.specs.declared.types.ASN1Type.{ASN1Type, fold-ASN1Type, roll-ASN1Type}
-use Rattle.asn_tree.specs.declared.types.SequenceOrSet.{SequenceOrSet, roll-SequenceOrSet}
-use Rattle.asn_tree.specs.declared.types.SequenceOrSetMember.{SequenceOrSetMember, SequenceOrSetMember-F, roll-SequenceOrSetMember}
+use Rattle.asn_tree.specs.declared.types.SequenceOrSet.{SequenceOrSet, fold-SequenceOrSet, roll-SequenceOrSet}
+use Rattle.asn_tree.specs.declared.types.SequenceOrSetMember.{SequenceOrSetMember, SequenceOrSetMember-F, fold-SequenceOrSetMember, roll-SequenceOrSetMember}
 use Rattle.asn_names.specs.Definitions.{Definitions, Module}
 
--- A tag's own environment stands, unless it is automatic: then the module's does (X.680 31.2.7).
+-- A tag's own environment stands, unless it is automatic: then the module's does (X.680 31.2).
 abbrev pub added : TaggingEnvironment → TaggingEnvironment → TaggingEnvironment
 added home Automatic = home
 added home Implicit = Implicit
@@ -36,6 +36,14 @@ retag_member environment m =
 unfoldable pub retagged : TaggingEnvironment → ASN1Type → ASN1Type
 retagged environment =
     fold-ASN1Type ASN1Type SequenceOrSet SequenceOrSetMember roll-ASN1Type roll-SequenceOrSet (retag_member environment)
+
+unfoldable pub retagged_struct : TaggingEnvironment → SequenceOrSet → SequenceOrSet
+retagged_struct environment =
+    fold-SequenceOrSet ASN1Type SequenceOrSet SequenceOrSetMember roll-ASN1Type roll-SequenceOrSet (retag_member environment)
+
+unfoldable pub retagged_member : TaggingEnvironment → SequenceOrSetMember → SequenceOrSetMember
+retagged_member environment =
+    fold-SequenceOrSetMember ASN1Type SequenceOrSet SequenceOrSetMember roll-ASN1Type roll-SequenceOrSet (retag_member environment)
 
 -- The definition of this number in the module of this number and environment, as linking gives it.
 abbrev pub given : TaggingEnvironment → ℕ → ℕ → ToplevelDefinition → ToplevelDefinition
