@@ -9,3 +9,4 @@ pub mod Layers
 pub mod Judge
 pub mod Meaning
 pub mod Kept
+pub mod Laws

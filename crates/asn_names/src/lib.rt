@@ -6,9 +6,11 @@
 #![tactic(auto)]
 
 mod faults;
+mod laws;
 mod look;
 mod names;
 
 pub use faults::Fault;
+pub use laws::more_steps;
 pub use look::name_of_definition;
 pub use names::{Names, Place};
