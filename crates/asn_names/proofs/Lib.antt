@@ -2,3 +2,4 @@ pub mod Places
 pub mod Standing
 pub mod Occurrences
 pub mod Steps
+pub mod Retagged

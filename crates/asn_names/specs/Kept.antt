@@ -10,7 +10,7 @@ use Rattle.asn_tree.specs.declared.types.SequenceOrSet.{SequenceOrSet, fold-Sequ
 use Rattle.asn_tree.specs.declared.types.SequenceOrSetMember.{SequenceOrSetMember, SequenceOrSetMember-F, fold-SequenceOrSetMember, roll-SequenceOrSetMember}
 use Rattle.asn_names.specs.Definitions.{Definitions, Module}
 
--- A tag's own environment stands, unless it is automatic: then the module's does (X.680 31.2).
+-- A tag's own environment stands, unless it is automatic: then the module's does (X.680 31.2.7).
 abbrev pub added : TaggingEnvironment → TaggingEnvironment → TaggingEnvironment
 added home Automatic = home
 added home Implicit = Implicit
@@ -33,15 +33,15 @@ retag_member environment m =
     })
 
 -- the type with its module's environment added to each tag, at every depth
-unfoldable pub retagged : TaggingEnvironment → ASN1Type → ASN1Type
+abbrev pub retagged : TaggingEnvironment → ASN1Type → ASN1Type
 retagged environment =
     fold-ASN1Type ASN1Type SequenceOrSet SequenceOrSetMember roll-ASN1Type roll-SequenceOrSet (retag_member environment)
 
-unfoldable pub retagged_struct : TaggingEnvironment → SequenceOrSet → SequenceOrSet
+abbrev pub retagged_struct : TaggingEnvironment → SequenceOrSet → SequenceOrSet
 retagged_struct environment =
     fold-SequenceOrSet ASN1Type SequenceOrSet SequenceOrSetMember roll-ASN1Type roll-SequenceOrSet (retag_member environment)
 
-unfoldable pub retagged_member : TaggingEnvironment → SequenceOrSetMember → SequenceOrSetMember
+abbrev pub retagged_member : TaggingEnvironment → SequenceOrSetMember → SequenceOrSetMember
 retagged_member environment =
     fold-SequenceOrSetMember ASN1Type SequenceOrSet SequenceOrSetMember roll-ASN1Type roll-SequenceOrSet (retag_member environment)
 
