@@ -3,3 +3,5 @@ pub mod Standing
 pub mod Occurrences
 pub mod Steps
 pub mod Retagged
+pub mod Given
+pub mod Kept

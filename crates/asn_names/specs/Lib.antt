@@ -10,3 +10,4 @@ pub mod Judge
 pub mod Meaning
 pub mod Kept
 pub mod Laws
+pub mod Given
