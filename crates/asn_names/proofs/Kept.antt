@@ -32,6 +32,9 @@ each_same : {A : Type 0} (f g : A → Answer) → ((x : A) → f x ≡ g x) → 
 each_same f g h [] = refl
 each_same f g h (x ∷ xs) = both_same _ _ _ _ (h x) (each_same f g h xs)
 
+given_type : (e : TaggingEnvironment) (home item : ℕ) (d : ToplevelDefinition) → type_of (given e home item d) ≡ retagged e (type_of d)
+given_type e home item (TypeDef d) = refl
+
 -- The second answers of what is retagged what the first answers of what is read.
 record Keeps (J K : Judging) : Type 0 where
   pub at_type : (e : TaggingEnvironment) (scope : Scope) (ty : ASN1Type) (t : ValueTree) → K (OfType scope (retagged e ty) t) ≡ J (OfType scope ty t)
@@ -67,9 +70,6 @@ module _ (read linked : Definitions) (seen : (name : List ℕ) → IsGiven (see 
   fields_kept : (e : TaggingEnvironment) (scope : Scope) (t : ValueTree) (x : StructLayer) → fields_at K scope t (struct_layer e x) ≡ fields_at J scope t x
   fields_kept e scope (Struct fs) x = both_same _ _ _ _ (known_kept e x.members fs) (members_kept e scope x.extensible fs 0 x.members)
   fields_kept e scope _ x = refl
-
-  given_type : (e : TaggingEnvironment) (home item : ℕ) (d : ToplevelDefinition) → type_of (given e home item d) ≡ retagged e (type_of d)
-  given_type e home item (TypeDef d) = refl
 
   defined_kept : (o p : Option ToplevelDefinition) (t : ValueTree) → IsGiven o p → place_at K (defined_place p) t ≡ place_at J (defined_place o) t
   defined_kept None None t g = refl
@@ -108,3 +108,23 @@ module _ (read linked : Definitions) (seen : (name : List ℕ) → IsGiven (see 
   unfolding judge
   judge_kept zero = record { at_type = λ e scope ty t. refl; at_constraint = λ scope c t. refl; at_operation = λ scope o t. refl; at_element = λ scope x t. refl }
   judge_kept (suc n) = step_kept read linked seen (judge read n) (judge linked n) (judge_kept n)
+
+module _ (reading : List Module) (linked : Definitions) (standing : IsStanding (given_definitions reading) linked) where
+  standing_given : (name : List ℕ) → IsGiven (see (definitions_of reading) name) (see linked name)
+  standing_given name = subst (λ o. IsGiven (see (definitions_of reading) name) o) (sym (standing.each name)) (see_given reading name)
+
+  pub judgement_kept : (e : TaggingEnvironment) (scope : Scope) (ty : ASN1Type) (t : ValueTree) (n : ℕ) →
+      judge linked n (OfType scope (retagged e ty) t) ≡ judge (definitions_of reading) n (OfType scope ty t)
+  judgement_kept e scope ty t n = (judge_kept (definitions_of reading) linked standing_given n).at_type e scope ty t
+
+  retagged_alike : (e : TaggingEnvironment) (ty : ASN1Type) → AcceptsAlike (definitions_of reading) linked ty (retagged e ty)
+  retagged_alike e ty t = (λ a. (a.0, judgement_kept e Empty ty t a.0 ∙ a.1), λ a. (a.0, sym (judgement_kept e Empty ty t a.0) ∙ a.1))
+
+  seen_given : (name : List ℕ) (d e : ToplevelDefinition) → see (definitions_of reading) name ≡ Some d → see linked name ≡ Some e → IsGiven (Some d) (Some e)
+  seen_given name d e p q = subst (λ o. IsGiven (Some d) o) q (subst (λ o. IsGiven o (see linked name)) p (standing_given name))
+
+  pub linked_alike : (name : List ℕ) (d e : ToplevelDefinition) → see (definitions_of reading) name ≡ Some d → see linked name ≡ Some e → AcceptsAlike (definitions_of reading) linked (type_of d) (type_of e)
+  linked_alike name d e p q =
+      let g = seen_given name d e p q in
+      let is : type_of e ≡ retagged g.0 (type_of d) = ap type_of g.3 ∙ given_type g.0 g.1 g.2 d in
+      subst (AcceptsAlike (definitions_of reading) linked (type_of d)) (sym is) (retagged_alike g.0 (type_of d))

@@ -5,3 +5,4 @@ pub mod Steps
 pub mod Retagged
 pub mod Given
 pub mod Kept
+pub mod Folds
