@@ -73,11 +73,11 @@ module _ (e : TaggingEnvironment) (A B C : Type 0) (f : ASN1Type-F A B C → A) 
   same = ind-ASN1Type TypeSame StructSame MemberSame
       (λ x y is. subst (λ z. TypeSame (roll-ASN1Type z)) is (type_case y))
       (λ x y is. subst (λ z. StructSame (roll-SequenceOrSet z)) is
-        (struct_at _ (ap (λ ms. g (record { components_of = y.components_of; components_at = y.components_at; extensible = y.extensible; constraints = y.constraints; members = ms })) (members_same y.members))))
+      (struct_at _ (ap (λ ms. g (record { components_of = y.components_of; components_at = y.components_at; extensible = y.extensible; constraints = y.constraints; members = ms })) (members_same y.members))))
       (λ x y is. subst (λ z. MemberSame (roll-SequenceOrSetMember z)) is
-        (member_at _ (
-          untagged (record { name = y.name; tag = y.tag; ty = of_type (retagged e y.ty.0); default_value = y.default_value; is_optional = y.is_optional; is_recursive = y.is_recursive; constraints = y.constraints }) (retag e y.tag)
-          ∙ ap (λ a. h (record { name = y.name; tag = y.tag; ty = a; default_value = y.default_value; is_optional = y.is_optional; is_recursive = y.is_recursive; constraints = y.constraints })) y.ty.1)))
+      (member_at _ (
+      untagged (record { name = y.name; tag = y.tag; ty = of_type (retagged e y.ty.0); default_value = y.default_value; is_optional = y.is_optional; is_recursive = y.is_recursive; constraints = y.constraints }) (retag e y.tag)
+      ∙ ap (λ a. h (record { name = y.name; tag = y.tag; ty = a; default_value = y.default_value; is_optional = y.is_optional; is_recursive = y.is_recursive; constraints = y.constraints })) y.ty.1)))
     where
       type_case : (y : ASN1Type-F ((ty : ASN1Type) × TypeSame ty) ((s : SequenceOrSet) × StructSame s) ((m : SequenceOrSetMember) × MemberSame m)) →
           TypeSame (roll-ASN1Type (map-ASN1Type ((ty : ASN1Type) × TypeSame ty) ((s : SequenceOrSet) × StructSame s) ((m : SequenceOrSetMember) × MemberSame m) ASN1Type SequenceOrSet SequenceOrSetMember (λ y. y.0) (λ y. y.0) (λ y. y.0) y))

@@ -33,8 +33,8 @@ here_given : (e : TaggingEnvironment) (home item : ℕ) (name : List ℕ) (d : T
     IsGiven (if is_named name d then Some d else None) (if is_named name (given e home item d) then Some (given e home item d) else None)
 here_given e home item name (TypeDef d) =
     elim (bytes_eq d.name name) as (λ b. IsGiven (if b then Some (TypeDef d) else None) (if b then Some (given e home item (TypeDef d)) else None)) [
-      true ↦ (e, home, item, refl)
-    | false ↦ tt
+      | true ↦ (e, home, item, refl)
+      | false ↦ tt
     ]
 
 module_given : (e : TaggingEnvironment) (home item : ℕ) (name : List ℕ) (ds : Definitions) → IsGiven (see ds name) (see (given_from e home item ds) name)
@@ -46,8 +46,8 @@ modules_given home name [] = tt
 modules_given home name (m ∷ ms) =
     let given_here = given_from m.0.tagging_environment home 0 m.1 in
     subst (λ o. IsGiven o (see (given_since home (m ∷ ms)) name)) (sym (see_append m.1 (definitions_of ms) name))
-      (subst (λ o. IsGiven (or_else (see (definitions_of ms) name) (see m.1 name)) o) (sym (see_append given_here (given_since (home + 1) ms) name))
-        (or_else_given _ _ _ _ (modules_given (home + 1) name ms) (module_given m.0.tagging_environment home 0 name m.1)))
+    (subst (λ o. IsGiven (or_else (see (definitions_of ms) name) (see m.1 name)) o) (sym (see_append given_here (given_since (home + 1) ms) name))
+    (or_else_given _ _ _ _ (modules_given (home + 1) name ms) (module_given m.0.tagging_environment home 0 name m.1)))
 
 pub see_given : (reading : List Module) (name : List ℕ) → IsGiven (see (definitions_of reading) name) (see (given_definitions reading) name)
 see_given reading name = modules_given 0 name reading

@@ -6,3 +6,4 @@ pub mod Retagged
 pub mod Given
 pub mod Kept
 pub mod Folds
+pub mod Decided

@@ -95,4 +95,4 @@ more_steps defs n zero q =
 more_steps defs n (suc m) q =
     let e : n + suc m ≡ suc (n + m) = omega arith in
     subst (λ k. Refines (judge defs n q) (judge defs k q)) (sym e)
-      (refines_through _ _ _ (more_steps defs n m q) (judge_more defs (n + m) q))
+    (refines_through _ _ _ (more_steps defs n m q) (judge_more defs (n + m) q))

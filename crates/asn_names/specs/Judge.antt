@@ -77,7 +77,7 @@ abbrev pub members_at : Judging → Scope → Option ℕ → Fields → ℕ → 
 members_at J scope marker fs number [] = Yes
 members_at J scope marker fs number (m ∷ ms) =
     both (member_at J scope (is_addition marker number) (out-SequenceOrSetMember m) (field_named fs (out-SequenceOrSetMember m).name))
-        (members_at J scope marker fs (suc number) ms)
+    (members_at J scope marker fs (suc number) ms)
 
 abbrev pub fields_at : Judging → Scope → ValueTree → StructLayer → Answer
 fields_at J scope (Struct fs) x = both (known_fields x.members fs) (members_at J scope x.extensible fs 0 x.members)

@@ -11,6 +11,9 @@ mod look;
 mod names;
 
 pub use faults::Fault;
-pub use laws::{linked_accepts_alike, more_steps, retagging_keeps_judgement, retagging_keeps_names, retagging_keeps_plain_form, sees_given};
+pub use laws::{
+    every_tree_decided, linked_accepts_alike, more_steps, retagging_keeps_judgement,
+    retagging_keeps_names, retagging_keeps_plain_form, sees_given,
+};
 pub use look::name_of_definition;
 pub use names::{Names, Place};
