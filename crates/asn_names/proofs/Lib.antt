@@ -7,3 +7,4 @@ pub mod Given
 pub mod Kept
 pub mod Folds
 pub mod Decided
+pub mod Shown

@@ -1,10 +1,8 @@
 -- Three answers: yes, no, and unknown, which is no fault of what is asked.
 use Rattle.std.specs.Prelude.{◌≡◌, Bool, true, false, List, [], ◌∷◌}
 
-pub data Answer : Type 0 where
-  Yes : Answer
-  No : Answer
-  Unknown : Answer
+pub use Rattle.asn_names.specs.declared.trees.Answer.{Answer}
+pub use Rattle.asn_names.specs.declared.trees.Answer.TheVariants.{Yes, No, Unknown}
 
 -- Kleene's strong logic: a no in a conjunction stays no, and a yes in a disjunction stays yes.
 abbrev pub both : Answer → Answer → Answer

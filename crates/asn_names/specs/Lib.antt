@@ -11,3 +11,4 @@ pub mod Meaning
 pub mod Kept
 pub mod Laws
 pub mod Given
+pub mod Trees

@@ -9,6 +9,7 @@ mod faults;
 mod laws;
 mod look;
 mod names;
+mod trees;
 
 pub use faults::Fault;
 pub use laws::{
@@ -17,3 +18,4 @@ pub use laws::{
 };
 pub use look::name_of_definition;
 pub use names::{Names, Place};
+pub use trees::{Answer, Field, Tree};
