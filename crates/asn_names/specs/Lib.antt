@@ -2,4 +2,13 @@ pub mod Definitions
 pub mod Occurrences
 pub mod Faults
 pub mod Index
+pub mod Answers
+pub mod ValueTrees
+pub mod Scopes
+pub mod Layers
+pub mod Judge
+pub mod Meaning
 pub mod Kept
+pub mod Laws
+pub mod Given
+pub mod Trees

@@ -1,0 +1,62 @@
+-- Laws of meaning.
+use Rattle.std.specs.Prelude.{◌≡◌, ℕ, ◌+◌, List, Some, Bool, true, false}
+use Rattle.std.specs.List.{All}
+use Rattle.asn_tree.specs.declared.definitions.ToplevelDefinition.{ToplevelDefinition}
+use Rattle.asn_tree.specs.declared.headers.TaggingEnvironment.{TaggingEnvironment}
+use Rattle.asn_tree.specs.declared.types.ASN1Type.{ASN1Type, ASN1Type-F, out-ASN1Type}
+use Rattle.asn_names.specs.Answers.{Refines}
+use Rattle.asn_names.specs.Definitions.{Definitions, Module, definitions_of, see, type_of, IsStanding}
+use Rattle.asn_names.specs.Faults.{IsClean}
+use Rattle.asn_names.specs.Given.{IsGiven}
+use Rattle.asn_names.specs.Judge.{Query, OfType, judge}
+use Rattle.asn_names.specs.Kept.{given_definitions, retagged}
+use Rattle.asn_names.specs.Layers.{TypeLayer}
+use Rattle.asn_names.specs.Meaning.{AcceptsAlike, IsDecided, is_plain}
+use Rattle.asn_names.specs.Occurrences.{names_in}
+use Rattle.asn_names.specs.Scopes.{Scope}
+use Rattle.asn_names.specs.ValueTrees.{ValueTree}
+
+-- More steps never change a yes or a no.
+abbrev pub MoreSteps : Type 0
+MoreSteps = (defs : Definitions) (n m : ℕ) (q : Query) → Refines (judge defs n q) (judge defs (n + m) q)
+
+-- whether one level of a type is no type reference
+abbrev pub is_head : TypeLayer → Bool
+is_head (ASN1Type-F.Boolean x) = true
+is_head (ASN1Type-F.Integer x) = true
+is_head (ASN1Type-F.Sequence x) = true
+is_head (ASN1Type-F.ElsewhereDeclaredType x) = false
+
+-- No definition's own type is a type reference.
+abbrev pub AreHeads : Definitions → Type 0
+AreHeads defs = All (λ d. is_head (out-ASN1Type (type_of d)) ≡ true) defs
+
+-- Every tree is decided under the type of a clean definition.
+abbrev pub EveryTreeDecided : Type 0
+EveryTreeDecided = (defs : Definitions) → AreHeads defs → (d : ToplevelDefinition) → IsClean defs d → (t : ValueTree) → IsDecided defs (type_of d) t
+
+-- What a name stands for among the given definitions is what it stands for in the reading, as linking gives it.
+abbrev pub SeesGiven : Type 0
+SeesGiven = (reading : List Module) (name : List ℕ) → IsGiven (see (definitions_of reading) name) (see (given_definitions reading) name)
+
+-- A retagged type is judged over the linked definitions as the type is over those of the reading, in as many steps.
+abbrev pub RetaggingKeepsJudgement : Type 0
+RetaggingKeepsJudgement =
+    (reading : List Module) (linked : Definitions) → IsStanding (given_definitions reading) linked →
+    (environment : TaggingEnvironment) (scope : Scope) (ty : ASN1Type) (t : ValueTree) (n : ℕ) →
+    judge linked n (OfType scope (retagged environment ty) t) ≡ judge (definitions_of reading) n (OfType scope ty t)
+
+-- What a name stands for among the linked definitions accepts exactly the trees of what it stands for in the reading.
+abbrev pub LinkedAcceptsAlike : Type 0
+LinkedAcceptsAlike =
+    (reading : List Module) (linked : Definitions) → IsStanding (given_definitions reading) linked →
+    (name : List ℕ) (d e : ToplevelDefinition) → see (definitions_of reading) name ≡ Some d → see linked name ≡ Some e →
+    AcceptsAlike (definitions_of reading) linked (type_of d) (type_of e)
+
+-- Retagging changes no name in a type.
+abbrev pub RetaggingKeepsNames : Type 0
+RetaggingKeepsNames = (environment : TaggingEnvironment) (ty : ASN1Type) → names_in (retagged environment ty) ≡ names_in ty
+
+-- Retagging leaves a type in plain form, or not in it.
+abbrev pub RetaggingKeepsPlainForm : Type 0
+RetaggingKeepsPlainForm = (environment : TaggingEnvironment) (ty : ASN1Type) → is_plain (retagged environment ty) ≡ is_plain ty

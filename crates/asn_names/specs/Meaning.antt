@@ -1,0 +1,52 @@
+-- What a type means: the trees that it accepts.
+use Rattle.std.specs.Prelude.{◌≡◌, ℕ, Bool, true, false, ◌&&◌, List, [], ◌∷◌, ◌↔◌}
+use Rattle.std.specs.List.{list_all}
+use Rattle.asn_tree.specs.declared.types.ASN1Type.{ASN1Type, ASN1Type-F, fold-ASN1Type}
+use Rattle.asn_tree.specs.declared.types.SequenceOrSet.{SequenceOrSet-F}
+use Rattle.asn_tree.specs.declared.types.SequenceOrSetMember.{SequenceOrSetMember-F}
+use Rattle.asn_names.specs.Answers.{Yes, No, IsKnown}
+use Rattle.asn_names.specs.Definitions.{Definitions}
+use Rattle.asn_names.specs.Judge.{OfType, judge}
+use Rattle.asn_names.specs.Scopes.{Scope, Empty}
+use Rattle.asn_names.specs.ValueTrees.{ValueTree}
+
+-- Some number of steps gives yes.
+abbrev pub Accepts : Definitions → Scope → ASN1Type → ValueTree → Type 0
+Accepts defs scope ty t = (n : ℕ) × (judge defs n (OfType scope ty t) ≡ Yes)
+
+-- Some number of steps gives no.
+abbrev pub Rejects : Definitions → Scope → ASN1Type → ValueTree → Type 0
+Rejects defs scope ty t = (n : ℕ) × (judge defs n (OfType scope ty t) ≡ No)
+
+-- Some number of steps gives yes or no.
+abbrev pub IsDecided : Definitions → ASN1Type → ValueTree → Type 0
+IsDecided defs ty t = (n : ℕ) × IsKnown (judge defs n (OfType Empty ty t))
+
+-- The one type over the one list of definitions accepts exactly the trees that the other accepts over the other.
+abbrev pub AcceptsAlike : Definitions → Definitions → ASN1Type → ASN1Type → Type 0
+AcceptsAlike reading linked ty linked_ty = (t : ValueTree) → Accepts reading Empty ty t ↔ Accepts linked Empty linked_ty t
+
+-- whether no name stands after COMPONENTS OF
+abbrev pub has_no_name : List (List ℕ) → Bool
+has_no_name [] = true
+has_no_name (name ∷ names) = false
+
+-- one level of a type, where its parts are plain or not
+abbrev pub type_plain : ASN1Type-F Bool Bool Bool → Bool
+type_plain (ASN1Type-F.Boolean x) = true
+type_plain (ASN1Type-F.Integer x) = true
+type_plain (ASN1Type-F.Sequence x) = x
+type_plain (ASN1Type-F.ElsewhereDeclaredType x) = true
+
+abbrev pub struct_plain : SequenceOrSet-F Bool Bool Bool → Bool
+struct_plain x = has_no_name x.components_of && list_all (λ b. b) x.members
+
+abbrev pub member_plain : SequenceOrSetMember-F Bool Bool Bool → Bool
+member_plain x = x.ty
+
+-- At no depth a COMPONENTS OF stands, whose members would have to be looked up (X.680 25.1).
+unfoldable pub is_plain : ASN1Type → Bool
+is_plain = fold-ASN1Type Bool Bool Bool type_plain struct_plain member_plain
+
+abbrev pub IsPlain : ASN1Type → Type 0
+IsPlain ty = is_plain ty ≡ true

@@ -1,0 +1,41 @@
+//! Laws of meaning, each the contract of a function without a body.
+//!
+//! They speak of the definitions in specs/ alone. The layers above stand on them: what they rewrite keeps its meaning.
+
+ghost use Rattle.asn_names.specs.Laws.{EveryTreeDecided, LinkedAcceptsAlike, MoreSteps, RetaggingKeepsJudgement, RetaggingKeepsNames, RetaggingKeepsPlainForm, SeesGiven};
+
+/// More steps never change a yes or a no: only an unknown answer may become another.
+pub fn more_steps()
+    ensures { MoreSteps }
+{}
+
+/// Every tree is accepted or rejected by the type of a clean definition, where no definition's own type is a type
+/// reference.
+pub fn every_tree_decided()
+    ensures { EveryTreeDecided }
+{}
+
+/// A name stands for the same definition after linking has given each its place: the last of the name, as given.
+pub fn sees_given()
+    ensures { SeesGiven }
+{}
+
+/// Retagging changes no answer, over linked definitions as over those of the reading, in as many steps.
+pub fn retagging_keeps_judgement()
+    ensures { RetaggingKeepsJudgement }
+{}
+
+/// What a name stands for accepts the same trees before and after linking.
+pub fn linked_accepts_alike()
+    ensures { LinkedAcceptsAlike }
+{}
+
+/// Retagging changes no name in a type.
+pub fn retagging_keeps_names()
+    ensures { RetaggingKeepsNames }
+{}
+
+/// Retagging leaves a type in plain form, or not in it.
+pub fn retagging_keeps_plain_form()
+    ensures { RetaggingKeepsPlainForm }
+{}
