@@ -50,7 +50,7 @@ module _ (R S : RattleType) (h : R.Denot → S.Denot) where
       (own.the_row R).coded (own.the_row S).coded (invariant R.Denot) (invariant S.Denot)
       (λ u p q. refl) (λ u p q. refl) (λ u e. tt) (λ u e. tt) (over (fields.the_row R)) (over (fields.the_row S))
       (struct_places (fields.the_type R) (fields.the_type S) (vec.mapped h, tt) _ (λ d. refl) refl
-        (laid _ _ _ (vec.the_places heap.the_row ghosts R S h alike), tt))
+      (laid _ _ _ (vec.the_places heap.the_row ghosts R S h alike), tt))
 
   pub the_codes_placed : Recodes R S h → Recodes (own.the_row R) (own.the_row S) ((the_former former.this).map R.Denot S.Denot h)
   the_codes_placed recodes items = sym (code_map R.coded.code S.coded.code h (λ x. sym (recodes x)) items)
