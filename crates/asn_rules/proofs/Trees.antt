@@ -220,9 +220,24 @@ module _ (rules : List Expression) (text : List ℕ) where
   without_is (Fail h) = refl
   without_is TooDeep = refl
 
-  -- A call that leaves no node grows what it answers.
-  pub skip_grown : (d r i : ℕ) → grown rules text d (skip r) i ≡ of_outcome (answer rules text d (rule r) i)
+  -- What leaves no nodes grows what it answers.
+  pub skip_grown : (d r i : ℕ) → grown rules text d (skip r) i ≡ of_outcome (answer rules text d (skip r) i)
   skip_grown d r i = without_is (call_growth rules text d r i) ∙ ap of_outcome (plain_call d r i)
+
+  leafless_is : (o : Ending) → leafless o 0 ≡ of_outcome (Ok (at_height o 0))
+  leafless_is (ends j) = refl
+  leafless_is fails = refl
+
+  pub see_grown : (d i : ℕ) (s : Sight) → grown rules text d (see s) i ≡ of_outcome (answer rules text d (see s) i)
+  see_grown d i s = leafless_is (seen text s i)
+
+  turned_is : (i : ℕ) (x : Growth) → turn_growth i x ≡ of_outcome (turned i (plain x))
+  turned_is i (End j h m) = refl
+  turned_is i (Fail h) = refl
+  turned_is i TooDeep = refl
+
+  pub never_grown : (d i : ℕ) (a : Expression) → grown rules text d (never a) i ≡ of_outcome (answer rules text d (never a) i)
+  never_grown d i a = turned_is i (grown rules text d a i) ∙ ap (λ x. of_outcome (turned i x)) (plain_grown d a i)
 
   -- What is too deep to grow has a height above the depth.
   pub too_deep_to_grow : (d : ℕ) (e : Expression) (i : ℕ) (o : Ending) (h : ℕ) → i ≤ length text → grown rules text d e i ≡ TooDeep → Runs rules text e i o h → d < h
