@@ -91,6 +91,7 @@ fn grow_none(
 
 // What the expression grows at the offset, where no more than `depth` calls lie within each other.
 #[cycle(growing)]
+#[tactic(auto, using(crate::proofs::Trees::see_grown, crate::proofs::Trees::skip_grown))]
 pub(crate) fn grow(
     alloc: Global,
     grammar: Grammar,

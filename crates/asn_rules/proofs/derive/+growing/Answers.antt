@@ -1,28 +1,12 @@
 use Rattle.std.proofs.Common.{◌≡◌, ◌+◌, ◌<◌, ◌++◌, max, sym, ap, ◌∙◌, arith}
-use Rattle.asn_rules.specs.Expression.{expression, sight, many}
+use Rattle.asn_rules.specs.Expression.{expression, many}
 use Rattle.asn_rules.specs.Grown.{grown, after, of_outcome}
 use Rattle.asn_rules.specs.Answer.{answer}
 use Rattle.asn_rules.specs.Grammar.{rules_of}
 use Rattle.asn_rules.specs.declared.derive.Growth.TheVariants.{End, Fail}
 use Rattle.asn_rules.proofs.Theory.{max_is}
-use Rattle.asn_rules.proofs.Trees.{see_grown, skip_grown, never_grown, call_grown, many_grown, after_after}
+use Rattle.asn_rules.proofs.Trees.{never_grown, call_grown, many_grown, after_after}
 use Rattle.asn_rules.proofs.derive.+growing.Goals as goal
-
-pub grow-returns-in-See-clause-value : goal.grow-returns-in-See-clause-value
-grow-returns-in-See-clause-value t c =
-    let rules = rules_of c.args.grammar in
-    c.grow_none.ensures.value
-    ∙ ap (λ e. of_outcome (answer rules c.args.text.now c.args.depth (expression e) c.args.offset)) c.in-See.is
-    ∙ sym (see_grown rules c.args.text.now c.args.depth c.args.offset (sight c.in-See.field-0))
-    ∙ sym (ap (λ e. grown rules c.args.text.now c.args.depth (expression e) c.args.offset) c.in-See.is)
-
-pub grow-returns-in-Skip-clause-value : goal.grow-returns-in-Skip-clause-value
-grow-returns-in-Skip-clause-value t c =
-    let rules = rules_of c.args.grammar in
-    c.grow_none-in-Skip.ensures.value
-    ∙ ap (λ e. of_outcome (answer rules c.args.text.now c.args.depth (expression e) c.args.offset)) c.in-Skip.is
-    ∙ sym (skip_grown rules c.args.text.now c.args.depth c.in-Skip.field-0 c.args.offset)
-    ∙ sym (ap (λ e. grown rules c.args.text.now c.args.depth (expression e) c.args.offset) c.in-Skip.is)
 
 pub grow-returns-in-Not-clause-value : goal.grow-returns-in-Not-clause-value
 grow-returns-in-Not-clause-value t c =
