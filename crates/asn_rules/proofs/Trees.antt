@@ -4,11 +4,11 @@ use Rattle.std.specs.Prelude.{nat_lt, if◌then◌else◌, slice_range}
 use Rattle.std.proofs.lemmas.Bool.Decides.{Decides-ltb, nat_tests}
 use Rattle.asn_rules.specs.Expression.{Expression, see, seq, choice, many, never, guarded, rule, skip, Sight, rule_of}
 use Rattle.asn_rules.specs.Guards.{allows}
-use Rattle.asn_rules.specs.Runs.{Ending, ends, fails, seen, judged, Runs, seq_ends, seq_fails, choice_first, choice_second, many_turn, many_idle, many_fails, never_ends, never_fails, guard_judges, guard_fails, calls, skips}
+use Rattle.asn_rules.specs.Runs.{Ending, ends, fails, seen, judged, Runs, seq_ends, seq_fails, choice_first, choice_second, many_turn, many_idle, many_fails, never_ends, never_fails, guard_judges, guard_fails, calls, skips, Answer}
 use Rattle.asn_rules.specs.Runs as runs
-use Rattle.asn_rules.specs.Answer.{Answer, at_height, raise, higher, then_from, or_else, turned, judge, turn, turns, expr_answer, call_answer, answer}
-use Rattle.asn_rules.specs.Derives.{Derives, OneTree, node, sees, joins, takes, turns_to, repeats, idles, stops, misses, passes, stands, leaves_none, Stand, ends_before, one_more}
-use Rattle.asn_rules.specs.Grown.{leafless, without_nodes, of_outcome, after, then_grow, else_grow, turn_growth, kept, judge_growth, grow_turn, grow_turns, expr_growth, topped, call_growth, grown, plain, Derivation}
+use Rattle.asn_rules.specs.Answer.{at_height, raise, higher, then_from, or_else, turned, judge, turn, turns, expr_answer, call_answer, answer}
+use Rattle.asn_rules.specs.Derives.{Derives, OneTree, node, sees, joins, takes, turns_to, repeats, idles, stops, misses, passes, stands, leaves_none, Derivation, Stand, ends_before, one_more}
+use Rattle.asn_rules.specs.Grown.{leafless, without_nodes, of_outcome, after, then_grow, else_grow, turn_growth, kept, judge_growth, grow_turn, grow_turns, expr_growth, topped, call_growth, grown, plain}
 use Rattle.asn_rules.specs.declared.expression.Guard.{Guard}
 use Rattle.asn_rules.specs.declared.node.Node.{Node}
 use Rattle.asn_rules.specs.declared.node.Node.TheOpen.{Node-F}
@@ -220,9 +220,24 @@ module _ (rules : List Expression) (text : List ℕ) where
   without_is (Fail h) = refl
   without_is TooDeep = refl
 
-  -- A call that leaves no node grows what it answers.
-  pub skip_grown : (d r i : ℕ) → grown rules text d (skip r) i ≡ of_outcome (answer rules text d (rule r) i)
+  -- What leaves no nodes grows what it answers.
+  pub skip_grown : (d r i : ℕ) → grown rules text d (skip r) i ≡ of_outcome (answer rules text d (skip r) i)
   skip_grown d r i = without_is (call_growth rules text d r i) ∙ ap of_outcome (plain_call d r i)
+
+  leafless_is : (o : Ending) → leafless o 0 ≡ of_outcome (Ok (at_height o 0))
+  leafless_is (ends j) = refl
+  leafless_is fails = refl
+
+  pub see_grown : (d i : ℕ) (s : Sight) → grown rules text d (see s) i ≡ of_outcome (answer rules text d (see s) i)
+  see_grown d i s = leafless_is (seen text s i)
+
+  turned_is : (i : ℕ) (x : Growth) → turn_growth i x ≡ of_outcome (turned i (plain x))
+  turned_is i (End j h m) = refl
+  turned_is i (Fail h) = refl
+  turned_is i TooDeep = refl
+
+  pub never_grown : (d i : ℕ) (a : Expression) → grown rules text d (never a) i ≡ of_outcome (answer rules text d (never a) i)
+  never_grown d i a = turned_is i (grown rules text d a i) ∙ ap (λ x. of_outcome (turned i x)) (plain_grown d a i)
 
   -- What is too deep to grow has a height above the depth.
   pub too_deep_to_grow : (d : ℕ) (e : Expression) (i : ℕ) (o : Ending) (h : ℕ) → i ≤ length text → grown rules text d e i ≡ TooDeep → Runs rules text e i o h → d < h
@@ -372,18 +387,18 @@ module _ (rules : List Expression) (text : List ℕ) where
   nodes_stand e i j m le p = (in_order p le, (within p le).1)
 
   -- What a rule is made of, grown one level down, makes its derivation.
-  pub derivation_end : (d r i j h : ℕ) (e : Expression) (m : List Node) → i ≤ length text → 0 < d → e ≡ rule_of rules r → End j h m ≡ grown rules text (d - 1) e i → h ≤ d - 1 → Derivation rules text r i d (Ok (Some (node r i j m)))
-  derivation_end d r i j h e m le lt same eq low =
-      let g = subst (Grows (rule r) i) (sym (call_grown d r i e (End j h m) lt same eq)) (grows d (rule r) i le) in
+  pub derivation_end : (d r i j h : ℕ) (e : Expression) (m : List Node) (x : Growth) → i ≤ length text → 0 < d → e ≡ rule_of rules r → x ≡ End j h m → x ≡ grown rules text (d - 1) e i → h ≤ d - 1 → Derivation rules text r i d (Ok (Some (node r i j m)))
+  derivation_end d r i j h e m x le lt same is eq low =
+      let g = subst (Grows (rule r) i) (sym (call_grown d r i e (End j h m) lt same (sym is ∙ eq))) (grows d (rule r) i le) in
       (j, h + 1, g.0, omega arith, g.1)
 
-  pub derivation_fail : (d r i h : ℕ) (e : Expression) → i ≤ length text → 0 < d → e ≡ rule_of rules r → Fail h ≡ grown rules text (d - 1) e i → h ≤ d - 1 → Derivation rules text r i d (Ok None)
-  derivation_fail d r i h e le lt same eq low =
-      let g = subst (Grows (rule r) i) (sym (call_grown d r i e (Fail h) lt same eq)) (grows d (rule r) i le) in
+  pub derivation_fail : (d r i h : ℕ) (e : Expression) (x : Growth) → i ≤ length text → 0 < d → e ≡ rule_of rules r → x ≡ Fail h → x ≡ grown rules text (d - 1) e i → h ≤ d - 1 → Derivation rules text r i d (Ok None)
+  derivation_fail d r i h e x le lt same is eq low =
+      let g = subst (Grows (rule r) i) (sym (call_grown d r i e (Fail h) lt same (sym is ∙ eq))) (grows d (rule r) i le) in
       (h + 1, g, omega arith)
 
-  pub derivation_deep : (d r i : ℕ) (e : Expression) → i ≤ length text → 0 < d → e ≡ rule_of rules r → TooDeep ≡ grown rules text (d - 1) e i → Derivation rules text r i d (Err fault.TooDeep)
-  derivation_deep d r i e le lt same eq = λ o h p. too_deep_to_grow d (rule r) i o h le (sym (call_grown d r i e TooDeep lt same eq)) p
+  pub derivation_deep : (d r i : ℕ) (e : Expression) (x : Growth) → i ≤ length text → 0 < d → e ≡ rule_of rules r → x ≡ TooDeep → x ≡ grown rules text (d - 1) e i → Derivation rules text r i d (Err fault.TooDeep)
+  derivation_deep d r i e x le lt same is eq = λ o h p. too_deep_to_grow d (rule r) i o h le (sym (call_grown d r i e TooDeep lt same (sym is ∙ eq))) p
 
   pub derivation_none : (d r i : ℕ) → i ≤ length text → d ≡ 0 → Derivation rules text r i d (Err fault.TooDeep)
   derivation_none zero r i le z = λ o h p. too_deep_to_grow zero (rule r) i o h le refl p

@@ -1,15 +1,11 @@
--- What a try at a limited depth answers. Only private contracts cite the functions; `Answers` is the public one.
-use Rattle.std.specs.Prelude.{ℕ, zero, suc, ◌+◌, ◌-◌, ◌<◌, ◌≤◌, max, List, Result, Ok, Err, length, nat_lt, if◌then◌else◌}
+-- What a try at a limited depth answers. Only private contracts cite these.
+use Rattle.std.specs.Prelude.{ℕ, zero, suc, ◌+◌, ◌-◌, ◌≤◌, max, List, Ok, Err, length, nat_lt, if◌then◌else◌}
 use Rattle.asn_rules.specs.Expression.{Expression, see, seq, choice, many, never, guarded, rule, skip, rule_of}
-use Rattle.asn_rules.specs.Runs.{Ending, ends, fails, seen, judged, Runs}
+use Rattle.asn_rules.specs.Runs.{Ending, ends, fails, seen, judged, Answer}
 use Rattle.asn_rules.specs.declared.run.Outcome.{Outcome}
 use Rattle.asn_rules.specs.declared.run.Outcome.TheVariants.{End, Fail}
-use Rattle.asn_rules.specs.declared.run.MatchFault.{MatchFault}
-use Rattle.asn_rules.specs.declared.run.MatchFault.TheVariants.{TooDeep, OutOfMemory}
+use Rattle.asn_rules.specs.declared.run.MatchFault.TheVariants.{TooDeep}
 use Rattle.asn_rules.specs.declared.expression.Guard.{Guard}
-
-abbrev pub Answer : Type 0
-Answer = Result Outcome MatchFault
 
 abbrev pub at_height : Ending → ℕ → Outcome
 at_height (ends j) h = End j h
@@ -85,13 +81,6 @@ IsWithinOutcome length depth i (Fail h) = h ≤ depth
 abbrev pub IsWithin : ℕ → ℕ → ℕ → Answer → Type 0
 IsWithin length depth i (Ok o) = IsWithinOutcome length depth i o
 IsWithin length depth i (Err f) = Unit {0}
-
--- The ending and the height, or where the height exceeds the depth, that this is so.
-abbrev pub Answers : List Expression → List ℕ → Expression → ℕ → ℕ → Answer → Type 0
-Answers rules text e i depth (Ok (End j h)) = Runs rules text e i (ends j) h × (h ≤ depth)
-Answers rules text e i depth (Ok (Fail h)) = Runs rules text e i fails h × (h ≤ depth)
-Answers rules text e i depth (Err TooDeep) = (o : Ending) (h : ℕ) → Runs rules text e i o h → depth < h
-Answers rules text e i depth (Err OutOfMemory) = ⊥
 
 abbrev pub height_of : Outcome → ℕ
 height_of (End j h) = h

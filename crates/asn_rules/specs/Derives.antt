@@ -1,8 +1,10 @@
 -- How an expression that ends came to its end: the nodes of the rules that it called on its way.
-use Rattle.std.specs.Prelude.{◌≡◌, ℕ, ◌<◌, ◌≤◌, List, [], ◌∷◌, ◌++◌}
+use Rattle.std.specs.Prelude.{◌≡◌, ℕ, ◌<◌, ◌≤◌, List, [], ◌∷◌, ◌++◌, Option, Some, None, Result, Ok, Err}
 use Rattle.asn_rules.specs.Expression.{Expression, see, seq, choice, many, never, guarded, rule, skip, Sight, rule_of}
-use Rattle.asn_rules.specs.Runs.{ends, fails, seen, judged, Runs}
+use Rattle.asn_rules.specs.Runs.{Ending, ends, fails, seen, judged, Runs}
 use Rattle.asn_rules.specs.declared.expression.Guard.{Guard}
+use Rattle.asn_rules.specs.declared.run.MatchFault.{MatchFault}
+use Rattle.asn_rules.specs.declared.run.MatchFault.TheVariants.{TooDeep, OutOfMemory}
 use Rattle.asn_rules.specs.declared.node.Node.{Node}
 use Rattle.asn_rules.specs.declared.node.Node.TheViews.{roll-Node, out-Node}
 
@@ -28,6 +30,13 @@ pub record OneTree (rules : List Expression) (text : List ℕ) (e : Expression) 
   pub some : (j h : ℕ) → Runs rules text e i (ends j) h → (n : List Node) × Derives rules text e i j n
   pub ended : (j : ℕ) (n : List Node) → Derives rules text e i j n → (h : ℕ) × Runs rules text e i (ends j) h
   pub only : (j k : ℕ) (m n : List Node) → Derives rules text e i j m → Derives rules text e i k n → (j ≡ k) × (m ≡ n)
+
+-- The node of a rule exactly where it ends, none exactly where it fails, too deep exactly where the height exceeds the depth.
+abbrev pub Derivation : List Expression → List ℕ → ℕ → ℕ → ℕ → Result (Option Node) MatchFault → Type 0
+Derivation rules text r i depth (Ok (Some n)) = (j : ℕ) × (h : ℕ) × Runs rules text (rule r) i (ends j) h × (h ≤ depth) × Derives rules text (rule r) i j (n ∷ [])
+Derivation rules text r i depth (Ok None) = (h : ℕ) × Runs rules text (rule r) i fails h × (h ≤ depth)
+Derivation rules text r i depth (Err TooDeep) = (o : Ending) (h : ℕ) → Runs rules text (rule r) i o h → depth < h
+Derivation rules text r i depth (Err OutOfMemory) = Unit {0}
 
 -- The nodes stand one behind the other between two offsets, and the children of each within it.
 pub data Stand : ℕ → ℕ → List Node → Type 0 where

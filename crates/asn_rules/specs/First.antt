@@ -1,7 +1,7 @@
 -- The table of the first part of ASN.1: at each number its rule. "x" and 'X' skip blanks; 'X' is a whole word.
 use Rattle.std.specs.Prelude.{ℕ, List, [], ◌∷◌, codes}
 use Rattle.asn_rules.specs.Expression.{Expression, see, seq, choice, many, never, guarded, rule, skip, bytes, word, one_of}
-use Rattle.asn_rules.specs.declared.expression.ByteClass.TheVariants.{Blank, Digit, Letter, Lower, Upper, Alnum, Cap, LineFeed, Any}
+use Rattle.asn_rules.specs.declared.expression.ByteClass.TheVariants.{Blank, Digit, Letter, Alnum, Cap, Any}
 use Rattle.asn_rules.specs.declared.expression.Guard.TheVariants.{NoKeyword, FitsI128, IsOrdered}
 
 infixr 7 ◌·◌
@@ -43,12 +43,6 @@ no_rule = never (literal [])
 abbrev pub letter : Expression
 letter = see (one_of Letter)
 
-abbrev pub lower : Expression
-lower = see (one_of Lower)
-
-abbrev pub upper : Expression
-upper = see (one_of Upper)
-
 abbrev pub digit : Expression
 digit = see (one_of Digit)
 
@@ -60,9 +54,6 @@ cap = see (one_of Cap)
 
 abbrev pub blank : Expression
 blank = see (one_of Blank)
-
-abbrev pub line_feed : Expression
-line_feed = see (one_of LineFeed)
 
 abbrev pub any : Expression
 any = see (one_of Any)

@@ -1,13 +1,11 @@
--- What a try at a limited depth grows.
-use Rattle.std.specs.Prelude.{ℕ, zero, suc, ◌+◌, ◌-◌, ◌≤◌, ◌<◌, max, List, [], ◌∷◌, ◌++◌, Option, Some, None, Result, Ok, Err, length, nat_lt, if◌then◌else◌}
+-- What a try at a limited depth grows. Only private contracts cite these.
+use Rattle.std.specs.Prelude.{ℕ, zero, suc, ◌+◌, ◌-◌, ◌≤◌, max, List, [], ◌∷◌, ◌++◌, Ok, Err, length, nat_lt, if◌then◌else◌}
 use Rattle.asn_rules.specs.Expression.{Expression, see, seq, choice, many, never, guarded, rule, skip, rule_of}
-use Rattle.asn_rules.specs.Runs.{Ending, ends, fails, seen, judged, Runs}
-use Rattle.asn_rules.specs.Answer.{Answer}
-use Rattle.asn_rules.specs.Derives.{node, Derives}
+use Rattle.asn_rules.specs.Runs.{Ending, ends, fails, seen, judged, Answer}
+use Rattle.asn_rules.specs.Derives.{node}
 use Rattle.asn_rules.specs.declared.run.Outcome.TheVariants as outcome
 use Rattle.asn_rules.specs.declared.run.MatchFault.TheVariants as fault
 use Rattle.asn_rules.specs.declared.expression.Guard.{Guard}
-use Rattle.asn_rules.specs.declared.run.MatchFault.{MatchFault}
 use Rattle.asn_rules.specs.declared.node.Node.{Node}
 use Rattle.asn_rules.specs.declared.derive.Growth.{Growth}
 use Rattle.asn_rules.specs.declared.derive.Growth.TheVariants.{End, Fail, TooDeep}
@@ -99,10 +97,3 @@ abbrev pub IsWithinGrowth : ℕ → ℕ → ℕ → Growth → Type 0
 IsWithinGrowth length depth i (End j h m) = (i ≤ j) × (j ≤ length) × (h ≤ depth)
 IsWithinGrowth length depth i (Fail h) = h ≤ depth
 IsWithinGrowth length depth i TooDeep = Unit {0}
-
--- The node of a rule exactly where it ends, none exactly where it fails, too deep exactly where the height exceeds the depth.
-abbrev pub Derivation : List Expression → List ℕ → ℕ → ℕ → ℕ → Result (Option Node) MatchFault → Type 0
-Derivation rules text r i depth (Ok (Some n)) = (j : ℕ) × (h : ℕ) × Runs rules text (rule r) i (ends j) h × (h ≤ depth) × Derives rules text (rule r) i j (n ∷ [])
-Derivation rules text r i depth (Ok None) = (h : ℕ) × Runs rules text (rule r) i fails h × (h ≤ depth)
-Derivation rules text r i depth (Err fault.TooDeep) = (o : Ending) (h : ℕ) → Runs rules text (rule r) i o h → depth < h
-Derivation rules text r i depth (Err fault.OutOfMemory) = Unit {0}

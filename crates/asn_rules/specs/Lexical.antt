@@ -8,7 +8,7 @@ use Rattle.asn_rules.specs.declared.expression.ByteClass.TheVariants.{Blank, Dig
 abbrev pub between : ℕ → ℕ → ℕ → Bool
 between low high b = nat_le low b && nat_le b high
 
--- X.680 11.1.6 has the blanks, as codes of ASCII
+-- codes of ASCII (X.680 12.1.6 has the blanks)
 abbrev pub in_class : ByteClass → ℕ → Bool
 in_class Blank b = nat_eq b 32 || between 9 13 b
 in_class Digit b = between 48 57 b
@@ -50,7 +50,7 @@ width (bytes x) = length x
 width (word x) = length x
 width (one_of c) = 1
 
--- the reserved words (X.680 12.38), without the names of the types of strings and times
+-- words that name no type: of the reserved words of X.680 12.38 those that the rules ask for, some in pairs
 unfoldable pub keywords : List (List ℕ)
 keywords =
     codes "ABSTRACT-SYNTAX" ∷

@@ -1,9 +1,13 @@
 -- What a try of an expression comes to, over the rules of a grammar and a text.
-use Rattle.std.specs.Prelude.{◌≡◌, ℕ, ◌+◌, ◌<◌, max, List, if◌then◌else◌, slice_range, drop}
+use Rattle.std.specs.Prelude.{◌≡◌, ℕ, ◌+◌, ◌<◌, ◌≤◌, max, List, Result, Ok, Err, if◌then◌else◌, slice_range, drop}
 use Rattle.asn_rules.specs.Expression.{Expression, see, seq, choice, many, never, guarded, rule, skip, Sight, rule_of}
 use Rattle.asn_rules.specs.Lexical.{stands, width}
 use Rattle.asn_rules.specs.Guards.{allows}
 use Rattle.asn_rules.specs.declared.expression.Guard.{Guard}
+use Rattle.asn_rules.specs.declared.run.Outcome.{Outcome}
+use Rattle.asn_rules.specs.declared.run.Outcome.TheVariants.{End, Fail}
+use Rattle.asn_rules.specs.declared.run.MatchFault.{MatchFault}
+use Rattle.asn_rules.specs.declared.run.MatchFault.TheVariants.{TooDeep, OutOfMemory}
 
 -- it ends at an offset, or it fails
 pub data Ending : Type 0 where
@@ -39,3 +43,14 @@ pub data Runs (rules : List Expression) (text : List ℕ) : Expression → ℕ �
 pub record ExactlyOne (rules : List Expression) (text : List ℕ) (e : Expression) (i : ℕ) : Type 0 where
   pub one : (o : Ending) × (h : ℕ) × Runs rules text e i o h
   pub only : (o o' : Ending) (h h' : ℕ) → Runs rules text e i o h → Runs rules text e i o' h' → (o ≡ o') × (h ≡ h')
+
+-- what a try answers
+abbrev pub Answer : Type 0
+Answer = Result Outcome MatchFault
+
+-- The ending and the height, or where the height exceeds the depth, that this is so.
+abbrev pub Answers : List Expression → List ℕ → Expression → ℕ → ℕ → Answer → Type 0
+Answers rules text e i depth (Ok (End j h)) = Runs rules text e i (ends j) h × (h ≤ depth)
+Answers rules text e i depth (Ok (Fail h)) = Runs rules text e i fails h × (h ≤ depth)
+Answers rules text e i depth (Err TooDeep) = (o : Ending) (h : ℕ) → Runs rules text e i o h → depth < h
+Answers rules text e i depth (Err OutOfMemory) = ⊥

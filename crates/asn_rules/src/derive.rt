@@ -1,10 +1,11 @@
 //! The interpreter that grows the tree of what stands.
 //!
-//! As `run.rt`, with the nodes of the rules that were called on the way. What is looked ahead at, skipped or tried in
-//! vain leaves none, so the first two are run without nodes. `rules.rt` calls it.
+//! As `run.rt`, with the nodes of the rules that were called on the way. What is seen, looked ahead at or skipped leaves
+//! none, and is run by `run.rt`. `rules.rt` calls it.
 
 ghost use Rattle.std.specs.Prelude.{◌≡◌, ◌≤◌, ◌<◌, ◌+◌, length, IfOk};
-ghost use Rattle.asn_rules.specs.Expression.{expression, seq, choice, many, never, guarded, rule, skip};
+ghost use Rattle.asn_rules.specs.Expression.{expression, seq, choice, many, guarded, rule};
+ghost use Rattle.asn_rules.specs.Answer.{answer};
 ghost use Rattle.asn_rules.specs.Grown.{grown, after, of_outcome, IsWithinGrowth};
 ghost use Rattle.asn_rules.specs.Grammar.{rules_of};
 
@@ -12,7 +13,7 @@ use crate::expression::{Expression, Guard};
 use crate::grammar::{Grammar, rule_expression};
 use crate::guards::is_allowed;
 use crate::node::Node;
-use crate::run::{MatchFault, Outcome, run_rule, see_at};
+use crate::run::{MatchFault, Outcome, run};
 use asn_memory::{List, Mem};
 use std::alloc::Global;
 
@@ -72,24 +73,25 @@ impl Growth {
     }
 }
 
-// What the rule grows where it is skipped: it is run without nodes.
-fn grow_skip(
+// What an expression that leaves no nodes grows: it is run without them.
+fn grow_none(
     alloc: Global,
     grammar: Grammar,
     text: &[u8],
-    id: u8,
+    expr: &Expression,
     offset: usize,
     depth: usize,
 ) -> Growth
     requires { offset ≤ length text.now }
-    ensures value { result ≡ grown (rules_of grammar) text.now depth (skip id) offset }
+    ensures value { result ≡ of_outcome (answer (rules_of grammar) text.now depth (expression expr.now) offset) }
     ensures within { IsWithinGrowth (length text.now) depth offset result }
 {
-    Growth::of(alloc, run_rule(grammar, text, id, offset, depth))
+    Growth::of(alloc, run(grammar, text, expr, offset, depth))
 }
 
 // What the expression grows at the offset, where no more than `depth` calls lie within each other.
 #[cycle(growing)]
+#[tactic(auto, using(crate::proofs::Trees::see_grown, crate::proofs::Trees::skip_grown))]
 pub(crate) fn grow(
     alloc: Global,
     grammar: Grammar,
@@ -103,9 +105,9 @@ pub(crate) fn grow(
     ensures within { IfOk result (λ g. IsWithinGrowth (length text.now) depth offset g) }
 {
     match expr {
-        Expression::See(look) => Ok(Growth::of(alloc, Ok(see_at(text, look, offset)))),
+        Expression::See(_) => Ok(grow_none(alloc, grammar, text, expr, offset, depth)),
         Expression::Call(id) => grow_rule(alloc, grammar, text, *id, offset, depth),
-        Expression::Skip(id) => Ok(grow_skip(alloc, grammar, text, *id, offset, depth)),
+        Expression::Skip(_) => Ok(grow_none(alloc, grammar, text, expr, offset, depth)),
         Expression::Sequence(left, right) => {
             grow_sequence(alloc, grammar, text, left, right, offset, depth)
         }
@@ -113,7 +115,7 @@ pub(crate) fn grow(
             grow_choice(alloc, grammar, text, left, right, offset, depth)
         }
         Expression::Many(turn) => grow_many(alloc, grammar, text, turn, offset, depth),
-        Expression::Not(inner) => grow_not(alloc, grammar, text, inner, offset, depth),
+        Expression::Not(_) => Ok(grow_none(alloc, grammar, text, expr, offset, depth)),
         Expression::Guarded(inner, guard) => {
             grow_guarded(alloc, grammar, text, inner, *guard, offset, depth)
         }
@@ -216,35 +218,6 @@ fn grow_choice(
             let none = List::new(alloc);
             grow(alloc, grammar, text, right, offset, depth)?.after(height, none)
         }
-        Growth::TooDeep => Ok(Growth::TooDeep),
-    }
-}
-
-// No nodes, where the expression fails.
-#[cycle(growing)]
-fn grow_not(
-    alloc: Global,
-    grammar: Grammar,
-    text: &[u8],
-    inner: &Expression,
-    offset: usize,
-    depth: usize,
-) -> Mem<Growth>
-    requires { offset ≤ length text.now }
-    ensures value { IfOk result (λ g. g ≡ grown (rules_of grammar) text.now depth (never (expression inner.now)) offset) }
-    ensures within { IfOk result (λ g. IsWithinGrowth (length text.now) depth offset g) }
-{
-    match grow(alloc, grammar, text, inner, offset, depth)? {
-        Growth::End {
-            offset: _,
-            height,
-            nodes: _,
-        } => Ok(Growth::Fail { height }),
-        Growth::Fail { height } => Ok(Growth::End {
-            offset,
-            height,
-            nodes: List::new(alloc),
-        }),
         Growth::TooDeep => Ok(Growth::TooDeep),
     }
 }

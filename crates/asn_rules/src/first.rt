@@ -63,10 +63,6 @@ const NONE: Expression = Expression::Not(&EMPTY);
 
 const LETTER: Expression = Expression::See(Sight::OneOf(ByteClass::Letter));
 
-const LOWER: Expression = Expression::See(Sight::OneOf(ByteClass::Lower));
-
-const UPPER: Expression = Expression::See(Sight::OneOf(ByteClass::Upper));
-
 const DIGIT: Expression = Expression::See(Sight::OneOf(ByteClass::Digit));
 
 const ALNUM: Expression = Expression::See(Sight::OneOf(ByteClass::Alnum));
@@ -74,8 +70,6 @@ const ALNUM: Expression = Expression::See(Sight::OneOf(ByteClass::Alnum));
 const CAP: Expression = Expression::See(Sight::OneOf(ByteClass::Cap));
 
 const BLANK: Expression = Expression::See(Sight::OneOf(ByteClass::Blank));
-
-const LINE_FEED: Expression = Expression::See(Sight::OneOf(ByteClass::LineFeed));
 
 const ANY: Expression = Expression::See(Sight::OneOf(ByteClass::Any));
 

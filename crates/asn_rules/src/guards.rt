@@ -12,7 +12,7 @@ ghost use Rattle.asn_rules.specs.Sizes.{starts_bare, lengthened, lengthened_by, 
 use crate::expression::{ByteClass, Guard};
 use crate::lexical::is_in_class;
 
-/// The reserved words, none of which can be the name of a type. A space stands for blanks between two words.
+/// Reserved words, none of which can be the name of a type. A space stands between two that go together.
 pub static ASN1_KEYWORDS: [&str; 63] = [
     "ABSTRACT-SYNTAX",
     "BIT",

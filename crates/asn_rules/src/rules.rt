@@ -4,11 +4,9 @@
 
 ghost use Rattle.std.specs.Prelude.{◌≡◌, ◌≤◌, ℕ, List, length};
 ghost use Rattle.asn_rules.specs.Expression.{rule as rule_call};
-ghost use Rattle.asn_rules.specs.Runs.{ExactlyOne};
-ghost use Rattle.asn_rules.specs.Answer.{Answers};
+ghost use Rattle.asn_rules.specs.Runs.{Answers, ExactlyOne};
 ghost use Rattle.asn_rules.specs.Grammar.{rules_of};
-ghost use Rattle.asn_rules.specs.Derives.{Derives, OneTree, Stand};
-ghost use Rattle.asn_rules.specs.Grown.{Derivation};
+ghost use Rattle.asn_rules.specs.Derives.{Derivation, Derives, OneTree, Stand};
 
 use crate::derive::{Growth, grow};
 use crate::grammar::{Grammar, rule_expression};

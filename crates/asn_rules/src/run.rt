@@ -50,7 +50,7 @@ impl Outcome {
 }
 
 // What is seen at the offset.
-pub(crate) fn see_at(text: &[u8], look: &Sight, offset: usize) -> Outcome
+fn see_at(text: &[u8], look: &Sight, offset: usize) -> Outcome
     requires { offset ≤ length text.now }
     ensures { result ≡ at_height (seen text.now (sight look.now) offset) 0 }
 {

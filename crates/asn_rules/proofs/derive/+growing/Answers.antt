@@ -1,11 +1,20 @@
 use Rattle.std.proofs.Common.{◌≡◌, ◌+◌, ◌<◌, ◌++◌, max, sym, ap, ◌∙◌, arith}
 use Rattle.asn_rules.specs.Expression.{expression, many}
-use Rattle.asn_rules.specs.Grown.{grown, after}
+use Rattle.asn_rules.specs.Grown.{grown, after, of_outcome}
+use Rattle.asn_rules.specs.Answer.{answer}
 use Rattle.asn_rules.specs.Grammar.{rules_of}
 use Rattle.asn_rules.specs.declared.derive.Growth.TheVariants.{End, Fail}
 use Rattle.asn_rules.proofs.Theory.{max_is}
-use Rattle.asn_rules.proofs.Trees.{call_grown, many_grown, after_after}
+use Rattle.asn_rules.proofs.Trees.{never_grown, call_grown, many_grown, after_after}
 use Rattle.asn_rules.proofs.derive.+growing.Goals as goal
+
+pub grow-returns-in-Not-clause-value : goal.grow-returns-in-Not-clause-value
+grow-returns-in-Not-clause-value t c =
+    let rules = rules_of c.args.grammar in
+    c.grow_none-in-Not.ensures.value
+    ∙ ap (λ e. of_outcome (answer rules c.args.text.now c.args.depth (expression e) c.args.offset)) c.in-Not.is
+    ∙ sym (never_grown rules c.args.text.now c.args.depth c.args.offset (expression c.in-Not.field-0.now))
+    ∙ sym (ap (λ e. grown rules c.args.text.now c.args.depth (expression e) c.args.offset) c.in-Not.is)
 
 pub grow_rule-returns-in_ok-of-in-End-clause-value : goal.grow_rule-returns-in_ok-of-in-End-clause-value
 grow_rule-returns-in_ok-of-in-End-clause-value t c =

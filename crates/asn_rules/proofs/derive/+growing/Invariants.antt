@@ -28,9 +28,6 @@ decreases-grow_sequence l = l.depth * 2000 + 2 * (weight (expression l.left.now)
 abbrev pub decreases-grow_choice : goal.decreases-grow_choice
 decreases-grow_choice l = l.depth * 2000 + 2 * (weight (expression l.left.now) + weight (expression l.right.now)) + 1
 
-abbrev pub decreases-grow_not : goal.decreases-grow_not
-decreases-grow_not l = l.depth * 2000 + 2 * weight (expression l.inner.now) + 1
-
 abbrev pub decreases-grow_guarded : goal.decreases-grow_guarded
 decreases-grow_guarded l = l.depth * 2000 + 2 * weight (expression l.inner.now) + 1
 
