@@ -1,6 +1,6 @@
 //! Copies of a reading's definitions with their numbers and their module's tagging environment.
 
-ghost use Rattle.asn_names.specs.Kept.{added, given, given_definitions, given_from, retag as retag_of, retagged, retagged_member, retagged_struct};
+ghost use Rattle.asn_names.specs.Kept.{given, given_definitions, given_from, retag as retag_of, retagged, retagged_member, retagged_struct};
 ghost use Rattle.std.specs.Prelude.{◌≡◌, ◌++◌, IfOk, OnOk, map};
 
 use asn_copy::{
@@ -14,24 +14,13 @@ use asn_tree::{
 };
 use std::alloc::Global;
 
-/// A module's environment and then a tag's own, which stands unless it is automatic.
-fn add(home: TaggingEnvironment, own: TaggingEnvironment) -> TaggingEnvironment
-    ensures { result ≡ added home own }
-{
-    match own {
-        TaggingEnvironment::Automatic => home,
-        TaggingEnvironment::Implicit => TaggingEnvironment::Implicit,
-        TaggingEnvironment::Explicit => TaggingEnvironment::Explicit,
-    }
-}
-
 /// The tag with the module's environment added to its own.
 fn retag(environment: TaggingEnvironment, tag: Option<AsnTag>) -> Option<AsnTag>
     ensures { result ≡ retag_of environment tag }
 {
     match tag {
         Some(tag) => Some(AsnTag {
-            environment: add(environment, tag.environment),
+            environment: &environment + &tag.environment,
             tag_class: tag.tag_class,
             id: tag.id,
         }),

@@ -6,7 +6,7 @@ ghost use Rattle.std.specs.Prelude.{◌≡◌, ◌++◌, IfOk, OnOk, map};
 
 use asn_copy::copy_text;
 use asn_memory::{List, Mem, Text};
-use asn_names::{Fault, Names, name_of_definition};
+use asn_names::{Fault, Names};
 use asn_tree::{LinkerError, LinkerErrorType, ToplevelDefinition};
 use std::alloc::Global;
 
@@ -14,12 +14,8 @@ use std::alloc::Global;
 fn warn(alloc: Global, name: &Text, kind: LinkerErrorType) -> Mem<LinkerError>
     ensures { IfOk result (λ w. said_by w ≡ warning name.now kind) }
 {
-    Ok(LinkerError {
-        pdu: Some(copy_text(alloc, name)?),
-        details: details_of(kind),
-        kind,
-        grammar: None,
-    })
+    let pdu = copy_text(alloc, name)?;
+    Ok(LinkerError::new(Some(pdu), details_of(kind), kind))
 }
 
 /// What is wrong, in words.
@@ -110,7 +106,7 @@ pub(crate) fn warnings_on_all(
 {
     let mut warnings = List::new(alloc);
     for definition in definitions {
-        warn_on(alloc, &mut warnings, names, name_of_definition(definition))?;
+        warn_on(alloc, &mut warnings, names, definition.name())?;
     }
     Ok(warnings)
 }

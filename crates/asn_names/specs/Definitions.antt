@@ -4,6 +4,7 @@ use Rattle.std.specs.Cmp.Lexicographic.{slice_cmp}
 use Rattle.std.specs.List.Sorted.{IsStrictlySortedBy}
 use Rattle.std.specs.Ordering.{nat_cmp}
 use Rattle.std.specs.Str.{bytes_eq}
+pub use Rattle.asn_tree.specs.Calls.{name_of}
 use Rattle.asn_tree.specs.declared.definitions.ToplevelDefinition.{ToplevelDefinition}
 use Rattle.asn_tree.specs.declared.definitions.ToplevelDefinition.TheVariants.{TypeDef}
 use Rattle.asn_tree.specs.declared.headers.ModuleReference.{ModuleReference}
@@ -20,9 +21,6 @@ Module = ModuleReference × Definitions
 abbrev pub definitions_of : List Module → Definitions
 definitions_of [] = []
 definitions_of (m ∷ ms) = m.1 ++ definitions_of ms
-
-abbrev pub name_of : ToplevelDefinition → List ℕ
-name_of (TypeDef d) = d.name
 
 -- the type of a type definition
 abbrev pub type_of : ToplevelDefinition → ASN1Type

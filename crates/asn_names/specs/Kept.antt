@@ -1,20 +1,14 @@
 -- What linking gives of each definition: its numbers, its module's tagging environment, and all else as read.
 use Rattle.std.specs.Prelude.{ℕ, ◌+◌, List, [], ◌∷◌, ◌++◌, Option, Some, None}
+pub use Rattle.asn_tree.specs.Calls.{added}
 use Rattle.asn_tree.specs.declared.definitions.ToplevelDefinition.{ToplevelDefinition}
 use Rattle.asn_tree.specs.declared.definitions.ToplevelDefinition.TheVariants.{TypeDef}
 use Rattle.asn_tree.specs.declared.headers.AsnTag.{AsnTag}
 use Rattle.asn_tree.specs.declared.headers.TaggingEnvironment.{TaggingEnvironment}
-use Rattle.asn_tree.specs.declared.headers.TaggingEnvironment.TheVariants.{Automatic, Implicit, Explicit}
 use Rattle.asn_tree.specs.declared.types.ASN1Type.{ASN1Type, fold-ASN1Type, roll-ASN1Type}
 use Rattle.asn_tree.specs.declared.types.SequenceOrSet.{SequenceOrSet, fold-SequenceOrSet, roll-SequenceOrSet}
 use Rattle.asn_tree.specs.declared.types.SequenceOrSetMember.{SequenceOrSetMember, SequenceOrSetMember-F, fold-SequenceOrSetMember, roll-SequenceOrSetMember}
 use Rattle.asn_names.specs.Definitions.{Definitions, Module}
-
--- A tag's own environment stands, unless it is automatic: then the module's does (X.680 31.2.7).
-abbrev pub added : TaggingEnvironment → TaggingEnvironment → TaggingEnvironment
-added home Automatic = home
-added home Implicit = Implicit
-added home Explicit = Explicit
 
 abbrev pub retag : TaggingEnvironment → Option AsnTag → Option AsnTag
 retag environment None = None

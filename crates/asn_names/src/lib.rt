@@ -16,6 +16,5 @@ pub use laws::{
     every_tree_decided, linked_accepts_alike, more_steps, retagging_keeps_judgement,
     retagging_keeps_names, retagging_keeps_plain_form, sees_given,
 };
-pub use look::name_of_definition;
 pub use names::{Names, Place};
 pub use trees::{Answer, Field, Tree};

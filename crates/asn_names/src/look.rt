@@ -1,6 +1,6 @@
 //! Making an index of names, and looking names up in it.
 
-ghost use Rattle.asn_names.specs.Definitions.{is_duplicate, IsStanding, name_of, see};
+ghost use Rattle.asn_names.specs.Definitions.{is_duplicate, IsStanding, see};
 ghost use Rattle.asn_names.specs.Index.{found_at, IsIndexOf};
 ghost use Rattle.std.specs.BTreeMap.{get, get_by_text, IsOrdered};
 ghost use Rattle.std.specs.Prelude.{◌≡◌, ◌<◌, IfOk, OnOk, Some, ℕ, List as Sequence, length, map, if◌then◌else◌};
@@ -14,15 +14,6 @@ use asn_memory::{List, Mem, OutOfMemory, Text};
 use asn_tree::ToplevelDefinition;
 use std::alloc::Global;
 use std::collections::BTreeMap;
-
-/// The name of a definition.
-pub fn name_of_definition(definition: &ToplevelDefinition) -> &Text
-    ensures { result.now ≡ name_of definition.now }
-{
-    match definition {
-        ToplevelDefinition::TypeDef(definition) => &definition.name,
-    }
-}
 
 impl<'t> Names<'t> {
     /// An index of these definitions. Its work grows as n log n with the number of definitions.
@@ -95,7 +86,7 @@ fn index_of(alloc: Global, definitions: &[ToplevelDefinition]) -> Mem<BTreeMap<S
 {
     let mut index = BTreeMap::new(alloc);
     for (at, definition) in definitions.iter().enumerate() {
-        let name = name_of_definition(definition);
+        let name = definition.name();
         let place = Place {
             at,
             is_repeated: index.get(name.as_str()).is_some(),

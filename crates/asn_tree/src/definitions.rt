@@ -1,5 +1,8 @@
 //! Definitions of a module (X.680 clause 16), with their parameters (X.683 clause 8), and readings of whole texts.
 
+ghost use Rattle.asn_tree.specs.Calls.{index_of, name_of, numbered};
+ghost use Rattle.std.specs.Prelude.{◌≡◌};
+
 use crate::headers::{AsnTag, ModuleReference};
 use crate::types::ASN1Type;
 use asn_memory::{List, Text};
@@ -12,6 +15,35 @@ pub type Reading = List<(ModuleReference, List<ToplevelDefinition>)>;
 pub enum ToplevelDefinition {
     /// A type assignment (X.680 16.1).
     TypeDef(ToplevelTypeDefinition),
+}
+
+impl ToplevelDefinition {
+    /// The definition's name.
+    pub fn name(&self) -> &Text
+        ensures { result.now ≡ name_of self.now }
+    {
+        match self {
+            ToplevelDefinition::TypeDef(definition) => &definition.name,
+        }
+    }
+
+    /// The number of its module and its number in that module, both from 0; None until it is linked.
+    pub fn get_index(&self) -> Option<(usize, usize)>
+        ensures { result ≡ index_of self.now }
+    {
+        match self {
+            ToplevelDefinition::TypeDef(definition) => definition.index,
+        }
+    }
+
+    /// Sets both numbers.
+    pub fn set_index(&mut self, module: usize, item: usize)
+        ensures { self.new ≡ numbered «module» item self.old }
+    {
+        match self {
+            ToplevelDefinition::TypeDef(definition) => definition.index = Some((module, item)),
+        }
+    }
 }
 
 /// A type definition.

@@ -1,5 +1,7 @@
 //! The faults that warnings and refusals name.
 
+ghost use Rattle.std.specs.Prelude.{◌≡◌, None};
+
 use asn_memory::Text;
 use thiserror::Error;
 
@@ -14,6 +16,23 @@ pub struct LinkerError {
     pub kind: LinkerErrorType,
     /// The kind of the refusal that stands behind a warning of kind Unknown.
     pub grammar: Option<GrammarErrorType>,
+}
+
+impl LinkerError {
+    /// A warning of this kind, without a refusal behind it.
+    pub fn new(pdu: Option<Text>, details: &'static str, kind: LinkerErrorType) -> LinkerError
+        ensures pdu { result.pdu ≡ pdu }
+        ensures details { result.details.now ≡ details.now }
+        ensures kind { result.kind ≡ kind }
+        ensures grammar { result.grammar ≡ None }
+    {
+        LinkerError {
+            pdu,
+            details,
+            kind,
+            grammar: None,
+        }
+    }
 }
 
 /// Kinds of warnings.

@@ -1,6 +1,10 @@
 //! Headers of modules, their exports and imports, and tags (X.680 clauses 13, 31 and 32).
 
+ghost use Rattle.asn_tree.specs.Calls.{added};
+ghost use Rattle.std.specs.Prelude.{◌≡◌};
+
 use asn_memory::{List, Text};
+use std::ops::Add;
 
 /// The header of a module (X.680 13.1).
 #[derive(Drop)]
@@ -36,6 +40,21 @@ pub enum TaggingEnvironment {
     Automatic,
     Implicit,
     Explicit,
+}
+
+/// A module's environment and then a tag's own: the right one, unless it is automatic, then the left.
+impl Add for &TaggingEnvironment {
+    type Output = TaggingEnvironment;
+
+    ghost add_gives = { λ left right sum. sum ≡ added left.now right.now };
+
+    fn add(self, own: &TaggingEnvironment) -> TaggingEnvironment {
+        match own {
+            TaggingEnvironment::Automatic => *self,
+            TaggingEnvironment::Implicit => TaggingEnvironment::Implicit,
+            TaggingEnvironment::Explicit => TaggingEnvironment::Explicit,
+        }
+    }
 }
 
 /// Whether a module implies extension markers (X.680 13.4).

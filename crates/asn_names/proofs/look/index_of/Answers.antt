@@ -9,4 +9,4 @@ pub loop-at-preserved : goal.loop-at-preserved
 loop-at-preserved c = λ q.
     let again = c.is_some.ensures ∙ sym (some_copied c.get.result) ∙ ap is_some (c.get.ensures.value ∙ c.loop-at.invariant _) ∙ ap (λ n. is_some (place_in (take c.loop-at.at c.args.definitions.now) n)) c.as_str.ensures in
     c.in_ok-put.ensures q
-    ∙ index_more q c.name_of_definition-name.result.now c.args.definitions.now c.loop-at.at c.index-definitions-at.result c.is_some.result _ c.loop-at-test.true (c.name_of_definition-name.ensures ∙ ap name_of c.index-definitions-at.is) (c.loop-at.invariant q) again
+    ∙ index_more q c.name-name.result.now c.args.definitions.now c.loop-at.at c.index-definitions-at.result c.is_some.result _ c.loop-at-test.true (c.name-name.ensures ∙ ap name_of c.index-definitions-at.is) (c.loop-at.invariant q) again

@@ -1,0 +1,30 @@
+-- What the calls on trees answer.
+use Rattle.std.specs.Prelude.{ℕ, List, Option, Some, None}
+use Rattle.asn_tree.specs.declared.definitions.ToplevelDefinition.{ToplevelDefinition}
+use Rattle.asn_tree.specs.declared.definitions.ToplevelDefinition.TheVariants.{TypeDef}
+use Rattle.asn_tree.specs.declared.headers.TaggingEnvironment.{TaggingEnvironment}
+use Rattle.asn_tree.specs.declared.headers.TaggingEnvironment.TheVariants.{Automatic, Implicit, Explicit}
+
+abbrev pub name_of : ToplevelDefinition → List ℕ
+name_of (TypeDef d) = d.name
+
+abbrev pub index_of : ToplevelDefinition → Option (ℕ × ℕ)
+index_of (TypeDef d) = d.index
+
+-- the definition with these numbers, all else the same
+abbrev pub numbered : ℕ → ℕ → ToplevelDefinition → ToplevelDefinition
+numbered home item (TypeDef d) =
+    TypeDef (record {
+      comments = d.comments;
+      tag = d.tag;
+      name = d.name;
+      ty = d.ty;
+      parameterization = d.parameterization;
+      index = Some (home, item);
+    })
+
+-- A tag's own environment stands, unless it is automatic: then the module's does (X.680 31.2.7).
+abbrev pub added : TaggingEnvironment → TaggingEnvironment → TaggingEnvironment
+added home Automatic = home
+added home Implicit = Implicit
+added home Explicit = Explicit
