@@ -8,3 +8,5 @@ pub mod Kept
 pub mod Folds
 pub mod Decided
 pub mod Shown
+pub mod Judging
+pub mod Passing

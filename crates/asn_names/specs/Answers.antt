@@ -1,6 +1,5 @@
 -- Three answers: yes, no, and unknown, which is no fault of what is asked.
 use Rattle.std.specs.Prelude.{◌≡◌, Bool, true, false, List, [], ◌∷◌}
-
 pub use Rattle.asn_names.specs.declared.trees.Answer.{Answer}
 pub use Rattle.asn_names.specs.declared.trees.Answer.TheVariants.{Yes, No, Unknown}
 

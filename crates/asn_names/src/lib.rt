@@ -6,6 +6,7 @@
 #![tactic(auto)]
 
 mod faults;
+mod judge;
 mod laws;
 mod look;
 mod names;
