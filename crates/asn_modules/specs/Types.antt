@@ -1,5 +1,6 @@
 -- The types that nodes are.
 use Rattle.std.specs.Prelude.{ℕ, ℤ, pos, List, [], ◌∷◌, map, nat_eq, if◌then◌else◌, true, false, Option, Some, None}
+use Rattle.asn_rules.specs.declared.names.TheConstants.{ASN1_TYPE, COMPONENT_LIST, CONSTRAINT, ELSEWHERE_DECLARED_TYPE, IDENTIFIER, INTEGER, SEQUENCE, SEQUENCE_COMPONENT, SEQUENCE_OR_SET_MEMBER, STRUCT_BODY, TITLE_CASE_IDENTIFIER, VALUE_RANGE}
 use Rattle.asn_rules.specs.declared.node.Node.{Node}
 use Rattle.asn_rules.specs.declared.node.Node.TheViews.{out-Node}
 use Rattle.asn_rules.specs.Nodes.{Opened, para, child_among, child_of, at_child, made, made_all}
@@ -27,7 +28,7 @@ range_between text (least ∷ dots ∷ greatest ∷ []) = range_element (number_
 range_between text _ = range_element (pos 0) (pos 0)
 
 abbrev pub constraint_of : List ℕ → Node → Constraint
-constraint_of text n = at_child (child_of n 133) (range_element (pos 0) (pos 0)) (λ r. range_between text (out-Node r).children)
+constraint_of text n = at_child (child_of n VALUE_RANGE) (range_element (pos 0) (pos 0)) (λ r. range_between text (out-Node r).children)
 
 abbrev pub a_boolean : ASN1Type
 a_boolean = Boolean (record { constraints = [] })
@@ -60,17 +61,17 @@ a_member name ty =
       constraints = [];
     })
 
-abbrev integer_with : List ℕ → Option Node → ASN1Type
+abbrev pub integer_with : List ℕ → Option Node → ASN1Type
 integer_with text c = an_integer (at_child c [] (λ d. constraint_of text d ∷ []))
 
 abbrev pub integer_of : List ℕ → Node → ASN1Type
-integer_of text n = integer_with text (child_of n 102)
+integer_of text n = integer_with text (child_of n CONSTRAINT)
 
-abbrev reference_to : List ℕ → Option Node → ASN1Type
+abbrev pub reference_to : List ℕ → Option Node → ASN1Type
 reference_to text c = a_reference (at_child c [] (name_of text))
 
 abbrev pub reference_of : List ℕ → Node → ASN1Type
-reference_of text n = reference_to text (child_of n 9)
+reference_of text n = reference_to text (child_of n TITLE_CASE_IDENTIFIER)
 
 -- what a node is as a type, and as each part of one
 pub record Typed : Type 0 where
@@ -89,22 +90,22 @@ nodes cs = map (λ c. c.0) cs
 
 abbrev pub type_step : List ℕ → Opened Typed → ASN1Type
 type_step text x =
-    if nat_eq x.rule 60 then a_struct (made x.children 62 [] (λ c. c.body))
-    else if nat_eq x.rule 85 then integer_with text (child_among (nodes x.children) 102)
-    else if nat_eq x.rule 100 then reference_to text (child_among (nodes x.children) 9)
-    else if nat_eq x.rule 101 then first_type x.children
+    if nat_eq x.rule SEQUENCE then a_struct (made x.children STRUCT_BODY [] (λ c. c.body))
+    else if nat_eq x.rule INTEGER then integer_with text (child_among (nodes x.children) CONSTRAINT)
+    else if nat_eq x.rule ELSEWHERE_DECLARED_TYPE then reference_to text (child_among (nodes x.children) TITLE_CASE_IDENTIFIER)
+    else if nat_eq x.rule ASN1_TYPE then first_type x.children
     else a_boolean
 
 abbrev pub member_step : List ℕ → Opened Typed → SequenceOrSetMember
-member_step text x = a_member (at_child (child_among (nodes x.children) 8) [] (name_of text)) (made x.children 101 a_boolean (λ c. c.type))
+member_step text x = a_member (at_child (child_among (nodes x.children) IDENTIFIER) [] (name_of text)) (made x.children ASN1_TYPE a_boolean (λ c. c.type))
 
 abbrev pub typed_step : List ℕ → Opened Typed → Typed
 typed_step text x =
     record {
       type = type_step text x;
-      body = made x.children 64 [] (λ c. c.components);
-      components = made_all x.children 69 (λ c. c.component);
-      component = made x.children 70 (a_member [] a_boolean) (λ c. c.member);
+      body = made x.children COMPONENT_LIST [] (λ c. c.components);
+      components = made_all x.children SEQUENCE_COMPONENT (λ c. c.component);
+      component = made x.children SEQUENCE_OR_SET_MEMBER (a_member [] a_boolean) (λ c. c.member);
       member = member_step text x;
     }
 
@@ -127,7 +128,7 @@ abbrev pub member_of : List ℕ → Node → SequenceOrSetMember
 member_of text n = (typed text n).member
 
 abbrev pub sequence_of : List ℕ → Node → ASN1Type
-sequence_of text n = a_struct (at_child (child_of n 62) [] (body_of text))
+sequence_of text n = a_struct (at_child (child_of n STRUCT_BODY) [] (body_of text))
 
 abbrev pub first_of : List ℕ → List Node → ASN1Type
 first_of text [] = a_boolean

@@ -1,3 +1,5 @@
+pub mod Promised
+pub mod Plain
 pub mod Validity
 pub mod Given
 pub mod Taken

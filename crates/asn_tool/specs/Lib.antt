@@ -8,3 +8,4 @@ pub mod Sure
 pub mod Taking
 pub mod Run
 pub mod Due
+pub mod Headline

@@ -34,7 +34,7 @@ pub enum DefinitiveIdentifier {
 #[derive(Drop)]
 pub struct EncodingReferenceDefault(pub Text);
 
-/// How the tags of a module are read (X.680 13.2).
+/// How the tags of a module are read (X.680 13).
 #[derive(Clone, Copy, Debug, PartialEq, Eq)]
 pub enum TaggingEnvironment {
     Automatic,
@@ -57,7 +57,7 @@ impl Add for &TaggingEnvironment {
     }
 }
 
-/// Whether a module implies extension markers (X.680 13.4).
+/// Whether a module implies extension markers (X.680 13).
 #[derive(Clone, Copy, Debug, PartialEq, Eq)]
 pub enum ExtensibilityEnvironment {
     Implied,

@@ -1,0 +1,58 @@
+-- What a run promises its user.
+use Rattle.std.specs.Prelude.{◌≡◌, ◌⊎◌, ℕ, List, Option, Some, None, map}
+use Rattle.asn_check.specs.declared.linked.Linked.{Linked}
+use Rattle.asn_check.specs.Listing.{listing_of}
+use Rattle.asn_check.specs.Meaning.{parameters_of}
+use Rattle.asn_check.specs.Warnings.{said_by, warnings_of}
+use Rattle.asn_modules.specs.Whole.{IsReading}
+use Rattle.asn_names.specs.Definitions.{Definitions, Module, definitions_of, see, type_of, name_of, IsStanding}
+use Rattle.asn_names.specs.Faults.{IsClean}
+use Rattle.asn_names.specs.Kept.{given_definitions}
+use Rattle.asn_names.specs.Meaning.{AcceptsAlike, IsPlain}
+use Rattle.asn_tree.specs.declared.definitions.ToplevelDefinition.{ToplevelDefinition}
+use Rattle.asn_tool.specs.declared.ended.Ended.{Ended}
+use Rattle.asn_tool.specs.declared.status.Status.{Status}
+use Rattle.asn_tool.specs.declared.status.Status.TheVariants.{Clean, Warned, Matching, TooDeep, NotUtf8, TooLong}
+use Rattle.asn_tool.specs.Run.{IsTaken, IsValidText, status_of}
+use Rattle.asn_tool.specs.Sink.{Takes}
+
+-- a listing was written
+abbrev pub IsListing : Status → Type 0
+IsListing status = (status ≡ Clean) ⊎ (status ≡ Warned)
+
+-- Each clean type definition without parameters is in plain form among the linked definitions, and accepts there
+-- exactly the value trees that it accepts in the reading.
+abbrev pub MeansWhatIsRead : List Module → Definitions → Type 0
+MeansWhatIsRead reading linked =
+    (name : List ℕ) (d : ToplevelDefinition) → see (definitions_of reading) name ≡ Some d →
+    IsClean (definitions_of reading) d → parameters_of d ≡ None →
+    (e : ToplevelDefinition) × (see linked name ≡ Some e) × IsPlain (type_of e)
+    × AcceptsAlike (definitions_of reading) linked (type_of d) (type_of e)
+
+-- The listing of one linked answer of the text is written, and the answer means what the text says.
+pub record Prints (text : List ℕ) (written written' : Option (List ℕ)) (ended : Ended) : Type 0 where
+  pub reading : List Module
+  pub linked : Linked
+  -- the trees of this very run
+  pub hands_out : (ended.reading ≡ Some reading) × (ended.linked ≡ Some linked)
+  pub valid : IsValidText text
+  pub reads : IsReading text reading
+  -- the sink holds what it held, and then the listing
+  pub printed : Takes written (listing_of linked) written'
+  -- one definition for each name, the last of the name, in byte order of names, as read but for numbers and environment
+  pub definitions : IsStanding (given_definitions reading) linked.definitions
+  -- each definition is warned exactly for its faults, and each name that is defined more than once for that
+  pub warned : map said_by linked.warnings ≡ warnings_of (definitions_of reading) (map name_of linked.definitions)
+  pub means : MeansWhatIsRead reading linked.definitions
+  pub status : ended.status ≡ status_of linked
+
+-- What the text says decides: a valid text is listed, any other is none that matches.
+pub record Decides (text : List ℕ) (status : Status) : Type 0 where
+  pub valid : IsValidText text → IsListing status
+  pub invalid : (IsValidText text → ⊥) → status ≡ Matching
+
+-- Statuses that no run answers yet: a text that is too long, no UTF-8 or too deep is none that matches.
+pub record IsNoSplit (status : Status) : Type 0 where
+  pub deep : status ≡ TooDeep → ⊥
+  pub utf8 : status ≡ NotUtf8 → ⊥
+  pub long : status ≡ TooLong → ⊥
