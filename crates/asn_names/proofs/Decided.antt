@@ -1,5 +1,5 @@
 -- Every tree is decided under the type of a clean definition, where no definition's own type is a type reference.
-use Rattle.std.proofs.Common.{◌≡◌, ℕ, zero, suc, ◌+◌, ◌<◌, ◌≤◌, length, get_or, List, [], ◌∷◌, ◌++◌, map, Bool, true, false, Option, Some, None, refl, sym, ap, ◌∙◌, subst, arith}
+use Rattle.std.proofs.Common.{◌≡◌, ℕ, zero, suc, ◌+◌, ◌≤◌, List, [], ◌∷◌, Bool, true, false, Option, Some, None, refl, sym, ap, ◌∙◌, subst, arith}
 use Rattle.std.specs.Prelude.{◌||◌, is_none, if◌then◌else◌, ℤ}
 use Rattle.std.specs.List.{All, Contains, list_any}
 use Rattle.std.specs.Str.{bytes_eq}
@@ -16,12 +16,11 @@ use Rattle.asn_tree.specs.declared.types.SequenceOrSet.{out-SequenceOrSet}
 use Rattle.asn_tree.specs.declared.types.SequenceOrSetMember.{SequenceOrSetMember, out-SequenceOrSetMember}
 use Rattle.asn_tree.specs.declared.values.ASN1Value.{ASN1Value}
 use Rattle.asn_tree.specs.declared.values.ASN1Value.TheVariants.{Integer as WrittenNumber}
-use Rattle.asn_names.specs.declared.faults.Fault.{Fault}
 use Rattle.asn_names.specs.declared.faults.Fault.TheVariants.{MissingDependency}
 use Rattle.asn_names.specs.Answers.{Answer, Yes, No, Unknown, both, answer_of, IsKnown}
 use Rattle.asn_names.specs.Definitions.{Definitions, see, or_else, is_named, type_of}
-use Rattle.asn_names.specs.Faults.{IsClean, IsSpotless, is_missing, fault_of}
-use Rattle.asn_names.specs.Judge.{OfType, OfConstraint, OfOperation, OfElement, constrained, is_truth_value, is_whole_number, is_member, known_fields, is_addition, may_be_absent, member_at, members_at, fields_at, defined_place, place_at, end_at, range_at, element_at, type_at, step, judge}
+use Rattle.asn_names.specs.Faults.{IsClean, IsSpotless, is_missing}
+use Rattle.asn_names.specs.Judge.{OfType, OfConstraint, OfOperation, OfElement, constrained, is_truth_value, is_whole_number, is_member, known_fields, is_addition, may_be_absent, member_at, members_at, fields_at, defined_place, place_at, end_at, range_at, type_at, step, judge}
 use Rattle.asn_names.specs.Laws.{is_head, AreHeads}
 use Rattle.asn_names.specs.Layers.{TypeLayer, StructLayer, MemberLayer}
 use Rattle.asn_names.specs.Meaning.{IsDecided}

@@ -1,5 +1,5 @@
 -- What is folded from a type without regard to tags is the same once the type is retagged.
-use Rattle.std.proofs.Common.{◌≡◌, ℕ, List, [], ◌∷◌, map, Bool, refl, sym, ap, ◌∙◌, subst, Option}
+use Rattle.std.proofs.Common.{◌≡◌, List, [], ◌∷◌, map, Bool, refl, sym, ap, ◌∙◌, subst, Option}
 use Rattle.asn_tree.specs.declared.headers.AsnTag.{AsnTag}
 use Rattle.asn_tree.specs.declared.headers.TaggingEnvironment.{TaggingEnvironment}
 use Rattle.asn_tree.specs.declared.types.ASN1Type.{ASN1Type, ASN1Type-F, roll-ASN1Type, fold-ASN1Type, fold-roll-ASN1Type, map-ASN1Type, ind-ASN1Type}

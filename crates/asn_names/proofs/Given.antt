@@ -1,11 +1,11 @@
 -- What a name stands for in a reading is what it stands for among the given definitions, as given.
-use Rattle.std.proofs.Common.{◌≡◌, ℕ, ◌+◌, List, [], ◌∷◌, ◌++◌, Bool, true, false, Option, Some, None, refl, sym, ap, ◌∙◌, subst}
+use Rattle.std.proofs.Common.{◌≡◌, ℕ, ◌+◌, List, [], ◌∷◌, ◌++◌, true, false, Option, Some, None, refl, sym, ap, ◌∙◌, subst}
 use Rattle.std.specs.Prelude.{if◌then◌else◌}
 use Rattle.std.specs.Str.{bytes_eq}
 use Rattle.asn_tree.specs.declared.definitions.ToplevelDefinition.{ToplevelDefinition}
 use Rattle.asn_tree.specs.declared.definitions.ToplevelDefinition.TheVariants.{TypeDef}
 use Rattle.asn_tree.specs.declared.headers.TaggingEnvironment.{TaggingEnvironment}
-use Rattle.asn_names.specs.Definitions.{Definitions, Module, definitions_of, is_named, name_of, or_else, see}
+use Rattle.asn_names.specs.Definitions.{Definitions, Module, definitions_of, is_named, or_else, see}
 use Rattle.asn_names.specs.Given.{IsGiven}
 use Rattle.asn_names.specs.Kept.{given, given_from, given_since, given_definitions}
 

@@ -1,5 +1,5 @@
 -- The judge by the variant of what is asked, and the joining of answers.
-use Rattle.std.proofs.Common.{◌≡◌, ℕ, zero, suc, ◌+◌, ◌-◌, ◌<◌, length, get_or, drop, List, [], ◌∷◌, map, Bool, true, false, Option, Some, None, refl, sym, ap, ◌∙◌, subst, arith, sub-one}
+use Rattle.std.proofs.Common.{◌≡◌, ℕ, zero, suc, ◌+◌, ◌-◌, ◌<◌, length, get_or, drop, List, ◌∷◌, Bool, Option, refl, sym, ap, ◌∙◌, arith}
 use Rattle.std.proofs.lemmas.List.{drop_more}
 use Rattle.asn_tree.specs.declared.constraints.Constraint.{Constraint}
 use Rattle.asn_tree.specs.declared.constraints.Constraint.TheVariants.{SubtypeConstraint}
@@ -8,7 +8,7 @@ use Rattle.asn_tree.specs.declared.constraints.ElementSetOver.{ElementSetOver}
 use Rattle.asn_tree.specs.declared.constraints.ElementOrSetOperation.TheVariants.{Element}
 use Rattle.asn_tree.specs.declared.constraints.SubtypeElement.{SubtypeElement}
 use Rattle.asn_tree.specs.declared.constraints.SubtypeElement.TheVariants.{ValueRange}
-use Rattle.asn_tree.specs.declared.types.ASN1Type.{ASN1Type, ASN1Type-F, out-ASN1Type}
+use Rattle.asn_tree.specs.declared.types.ASN1Type.{ASN1Type, out-ASN1Type}
 use Rattle.asn_tree.specs.declared.types.ASN1Type.TheVariants.{Boolean, Integer, Sequence, ElsewhereDeclaredType, outs-Boolean, outs-Integer, outs-Sequence, outs-ElsewhereDeclaredType}
 use Rattle.asn_tree.specs.declared.types.SequenceOrSet.{SequenceOrSet, out-SequenceOrSet}
 use Rattle.asn_tree.specs.declared.values.ASN1Value.{ASN1Value}
@@ -16,7 +16,7 @@ use Rattle.asn_names.specs.Answers.{Answer, Yes, No, Unknown, both}
 use Rattle.asn_names.specs.Definitions.{Definitions}
 use Rattle.asn_names.specs.Judge.{Query, OfType, OfConstraint, OfOperation, OfElement, Judging, constrained, boolean_at, integer_at, struct_at, reference_at, type_at, range_at, step, judge}
 use Rattle.asn_names.specs.Layers.{TypeLayer, BooleanLayer, IntegerLayer, ReferenceLayer}
-use Rattle.asn_names.specs.Scopes.{Scope, Empty}
+use Rattle.asn_names.specs.Scopes.{Empty}
 use Rattle.asn_names.specs.ValueTrees.{ValueTree}
 
 pub both_through : (a b c : Answer) → both (both a b) c ≡ both a (both b c)

@@ -1,6 +1,6 @@
 -- Retagging changes no answer.
-use Rattle.std.proofs.Common.{◌≡◌, ℕ, zero, suc, ◌+◌, List, [], ◌∷◌, map, Option, Some, None, refl, sym, ap, ◌∙◌, subst}
-use Rattle.std.specs.Prelude.{Bool, ◌||◌, ◌↔◌}
+use Rattle.std.proofs.Common.{◌≡◌, ℕ, zero, suc, List, [], ◌∷◌, map, Option, Some, None, refl, sym, ap, ◌∙◌, subst}
+use Rattle.std.specs.Prelude.{Bool, ◌||◌}
 use Rattle.std.specs.Str.{bytes_eq}
 use Rattle.asn_tree.specs.declared.constraints.Constraint.{Constraint}
 use Rattle.asn_tree.specs.declared.constraints.Constraint.TheVariants.{SubtypeConstraint}
@@ -19,7 +19,7 @@ use Rattle.asn_names.specs.Given.{IsGiven}
 use Rattle.asn_names.specs.Judge.{OfType, OfConstraint, OfOperation, OfElement, Judging, constrained, is_truth_value, is_whole_number, is_member, known_fields, is_addition, member_at, members_at, fields_at, struct_at, defined_place, place_at, type_at, constraint_at, operation_at, step, judge}
 use Rattle.asn_names.specs.Kept.{given, given_definitions, retagged, retagged_member}
 use Rattle.asn_names.specs.Layers.{TypeLayer, StructLayer, MemberLayer}
-use Rattle.asn_names.specs.Meaning.{Accepts, AcceptsAlike}
+use Rattle.asn_names.specs.Meaning.{AcceptsAlike}
 use Rattle.asn_names.specs.Scopes.{Scope, Empty}
 use Rattle.asn_names.specs.ValueTrees.{ValueTree, Struct, Fields, no_field, field, field_named}
 use Rattle.asn_names.proofs.Given.{see_given}

@@ -1,13 +1,13 @@
 -- What a tree of the code stands for, by its variant.
-use Rattle.std.proofs.Common.{◌≡◌, ℕ, List, [], ◌∷◌, map, Bool, refl, sym, ap, ◌∙◌}
+use Rattle.std.proofs.Common.{◌≡◌, ℕ, List, ◌∷◌, Bool, refl, ap, ◌∙◌}
 use Rattle.std.specs.Prelude.{ℤ, Some, if◌then◌else◌}
 use Rattle.std.specs.Str.{bytes_eq}
 use Rattle.asn_tree.specs.declared.types.SequenceOrSetMember.{SequenceOrSetMember}
 use Rattle.asn_names.specs.Answers.{both, answer_of}
 use Rattle.asn_names.specs.Judge.{is_member, known_fields}
-use Rattle.asn_names.specs.declared.trees.Tree.{Tree, Tree-F, out-Tree, fold-Tree, fold_out-Tree, map-Tree}
+use Rattle.asn_names.specs.declared.trees.Tree.{Tree, Tree-F, out-Tree, fold_out-Tree, map-Tree}
 use Rattle.asn_names.specs.declared.trees.Tree.TheVariants.{TruthValue, WholeNumber, Struct, outs-TruthValue, outs-WholeNumber, outs-Struct}
-use Rattle.asn_names.specs.declared.trees.Field.{Field, out-Field, fold-Field, fold_out-Field}
+use Rattle.asn_names.specs.declared.trees.Field.{Field, out-Field, fold_out-Field}
 use Rattle.asn_names.specs.Trees.{Named, tree_level, field_level, shown, shown_field, shown_fields}
 use Rattle.asn_names.specs.ValueTrees.{ValueTree, field_named}
 

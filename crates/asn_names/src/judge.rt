@@ -3,7 +3,6 @@
 //! It goes by the definition of meaning, step by step, and stands on the index of names. It is slow, and serves to
 //! try types on trees.
 
-ghost use Rattle.asn_names.specs.Answers.{both, answer_of};
 ghost use Rattle.asn_names.specs.Definitions.{Definitions};
 ghost use Rattle.asn_names.specs.Judge.{OfConstraint, OfElement, OfOperation, OfType, constrained, end_at, fields_at, is_addition, is_from, is_member, is_truth_value, is_up_to, is_whole_number, judge, known_fields, member_at, members_at, place_at, place_of, range_at};
 ghost use Rattle.asn_names.specs.Scopes.{Empty};
@@ -19,26 +18,6 @@ use asn_tree::{
     ASN1Type, ASN1Value, Constraint, DeclarationElsewhere, ElementOrSetOperation, SequenceOrSet,
     SequenceOrSetMember, SubtypeElement, ToplevelDefinition,
 };
-
-impl Answer {
-    /// Yes where the condition holds, else no.
-    pub fn of(condition: bool) -> Answer
-        ensures { result ≡ answer_of condition }
-    {
-        if condition { Answer::Yes } else { Answer::No }
-    }
-
-    /// The conjunction: a no stays no, whatever the other is.
-    pub fn and(self, other: Answer) -> Answer
-        ensures { result ≡ both self other }
-    {
-        match (self, other) {
-            (Answer::No, _) | (_, Answer::No) => Answer::No,
-            (Answer::Yes, Answer::Yes) => Answer::Yes,
-            _ => Answer::Unknown,
-        }
-    }
-}
 
 /// Whether the tree is a truth value.
 #[tactic(auto, using(crate::proofs::Shown::truth_shown, crate::proofs::Shown::whole_shown))]

@@ -1,8 +1,7 @@
-use Rattle.std.proofs.Common.{ap, sym, ◌∙◌, ◌<◌, ◌+◌, ◌-◌, drop, get_or, length, arith}
+use Rattle.std.proofs.Common.{ap, sym, ◌∙◌, ◌<◌, ◌-◌, get_or, length, arith}
 use Rattle.asn_tree.specs.declared.types.SequenceOrSet.{out-SequenceOrSet}
 use Rattle.asn_tree.specs.declared.types.SequenceOrSetMember.{out-SequenceOrSetMember}
-use Rattle.asn_names.specs.Answers.{both}
-use Rattle.asn_names.specs.Judge.{fields_at, is_addition, judge, known_fields, member_at, members_at}
+use Rattle.asn_names.specs.Judge.{fields_at, judge, known_fields, member_at, members_at}
 use Rattle.asn_names.specs.Scopes.{Empty}
 use Rattle.asn_names.specs.Trees.{shown, shown_fields}
 use Rattle.asn_names.specs.ValueTrees.{field_named}
