@@ -39,11 +39,7 @@ fn copy_default(alloc: Global, value: &Option<ASN1Value>) -> Mem<Option<ASN1Valu
 
 /// A copy of a type with the module's environment added to each tag.
 #[cycle(retagging)]
-fn retag_type(
-    alloc: Global,
-    ty: &ASN1Type,
-    environment: TaggingEnvironment,
-) -> Mem<ASN1Type>
+fn retag_type(alloc: Global, ty: &ASN1Type, environment: TaggingEnvironment) -> Mem<ASN1Type>
     ensures { IfOk result (λ copy. copy ≡ retagged environment ty.now) }
 {
     match ty {

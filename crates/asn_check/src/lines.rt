@@ -24,11 +24,7 @@ fn write_definition(alloc: Global, out: &mut Text, definition: &ToplevelDefiniti
     }
 }
 
-fn write_definitions(
-    alloc: Global,
-    out: &mut Text,
-    definitions: &[ToplevelDefinition],
-) -> Mem<()>
+fn write_definitions(alloc: Global, out: &mut Text, definitions: &[ToplevelDefinition]) -> Mem<()>
     ensures { OnOk result (out.new ≡ out.old ++ definition_lines definitions.now) }
 {
     for definition in definitions {

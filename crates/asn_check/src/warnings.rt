@@ -21,7 +21,8 @@ fn warn(alloc: Global, name: &Text, kind: LinkerErrorType) -> Mem<LinkerError>
 /// What is wrong, in words.
 fn details_of(kind: LinkerErrorType) -> &'static str {
     match kind {
-        LinkerErrorType::MissingDependency => "a name has no definition of the kind that its place needs",
+        LinkerErrorType::MissingDependency =>
+            "a name has no definition of the kind that its place needs",
         LinkerErrorType::InvalidConstraintsError => "a range's minimum is above its maximum",
         LinkerErrorType::Unknown => "a form that is not linked",
         LinkerErrorType::Cycle => "the definition needs itself",
