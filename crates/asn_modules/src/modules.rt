@@ -67,11 +67,7 @@ fn read_child_header(alloc: Global, text: &[u8], node: &Node) -> Mem<ModuleRefer
 {
     match node.child(names::MODULE_REFERENCE) {
         Some(header) => read_header(alloc, text, header),
-        None => Ok(header(
-            alloc,
-            Text::new(alloc, "")?,
-            TaggingEnvironment::Explicit,
-        )),
+        None => Ok(header(alloc, Text::new(alloc, "")?, TaggingEnvironment::Explicit)),
     }
 }
 
@@ -122,11 +118,7 @@ fn read_definition(alloc: Global, text: &[u8], node: &Node) -> Mem<ToplevelDefin
     }
 }
 
-fn read_definitions(
-    alloc: Global,
-    text: &[u8],
-    nodes: &[Node],
-) -> Mem<List<ToplevelDefinition>>
+fn read_definitions(alloc: Global, text: &[u8], nodes: &[Node]) -> Mem<List<ToplevelDefinition>>
     ensures { IfOk result (λ ds. ds ≡ at_children nodes.now 188 (definition_of text.now)) }
 {
     let mut definitions = List::new(alloc);

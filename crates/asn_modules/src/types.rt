@@ -157,11 +157,7 @@ fn read_components(alloc: Global, text: &[u8], node: &Node) -> Mem<List<Sequence
 }
 
 #[cycle(reading)]
-fn read_component_list(
-    alloc: Global,
-    text: &[u8],
-    nodes: &[Node],
-) -> Mem<List<SequenceOrSetMember>>
+fn read_component_list(alloc: Global, text: &[u8], nodes: &[Node]) -> Mem<List<SequenceOrSetMember>>
     ensures { IfOk result (λ ms. ms ≡ at_children nodes.now 69 (component_of text.now)) }
 {
     let mut members = List::new(alloc);
