@@ -1,3 +1,4 @@
 pub mod Warnings
 pub mod Linked
 pub mod Listing
+pub mod Meaning

@@ -4,12 +4,14 @@
 #![tactic(auto)]
 
 mod given;
+mod laws;
 mod lines;
 mod link;
 mod linked;
 mod types;
 mod warnings;
 
+pub use laws::{standing_keeps_meaning, warnings_stay};
 pub use lines::listing;
 pub use link::link_reading;
 pub use linked::Linked;

@@ -1,11 +1,13 @@
 //! Linking a reading.
 
 ghost use Rattle.asn_check.specs.Warnings.{said_by, warnings_of};
-ghost use Rattle.asn_names.specs.Definitions.{IsStanding, name_of};
+ghost use Rattle.asn_check.specs.Meaning.{KeepsMeaning};
+ghost use Rattle.asn_names.specs.Definitions.{definitions_of, IsStanding, name_of};
 ghost use Rattle.asn_names.specs.Kept.{given_definitions};
 ghost use Rattle.std.specs.Prelude.{◌≡◌, IfOk, map};
 
 use crate::given::give_reading;
+use crate::laws::{standing_keeps_meaning, warnings_stay};
 use crate::linked::Linked;
 use crate::warnings::warnings_on_all;
 use asn_copy::{copy_module_reference, copy_toplevel_definition};
@@ -36,11 +38,8 @@ fn copy_headers(alloc: Global, reading: &Reading) -> Mem<List<ModuleReference>>
     Ok(headers)
 }
 
-/// The linked answer of a reading. In this part of the notation linking changes no type: each definition is given as
-/// read, with its numbers and its module's tagging environment.
-///
-/// The work grows as n log n with the size of the reading.
-pub fn link_reading(alloc: Global, reading: &Reading) -> Mem<Linked>
+/// The parts of a linked answer, the warnings judged over the definitions as they are given.
+fn link_parts(alloc: Global, reading: &Reading) -> Mem<Linked>
     ensures modules { IfOk result (λ linked. linked.modules ≡ map (λ m. m.0) reading.now) }
     ensures definitions { IfOk result (λ linked. IsStanding (given_definitions reading.now) linked.definitions) }
     ensures warnings { IfOk result (λ linked. map said_by linked.warnings ≡ warnings_of (given_definitions reading.now) (map name_of linked.definitions)) }
@@ -56,4 +55,20 @@ pub fn link_reading(alloc: Global, reading: &Reading) -> Mem<Linked>
         definitions,
         warnings,
     })
+}
+
+/// The linked answer of a reading. In this part of the notation linking changes no type: each definition is given as
+/// read, with its numbers and its module's tagging environment.
+///
+/// The work grows as n log n with the size of the reading.
+pub fn link_reading(alloc: Global, reading: &Reading) -> Mem<Linked>
+    ensures modules { IfOk result (λ linked. linked.modules ≡ map (λ m. m.0) reading.now) }
+    ensures definitions { IfOk result (λ linked. IsStanding (given_definitions reading.now) linked.definitions) }
+    ensures warnings { IfOk result (λ linked. map said_by linked.warnings ≡ warnings_of (definitions_of reading.now) (map name_of linked.definitions)) }
+    ensures meaning { IfOk result (λ linked. KeepsMeaning reading.now linked.definitions) }
+{
+    standing_keeps_meaning();
+    warnings_stay();
+    let linked = link_parts(alloc, reading)?;
+    Ok(linked)
 }

@@ -36,11 +36,12 @@ module _ (fs : List Field) (i : ℕ) (x : Field) (lt : i < length fs) (is : x �
       ∙ joined_next (λ ys. known_fields ms (shown_fields ys)) f (known_first ms) fs i x lt so_far all h
 
 pub members_next : (J : Judging) (marker : Option ℕ) (fs : Fields) (ms : List SequenceOrSetMember) (i : ℕ) (x : SequenceOrSetMember) → i < length ms → x ≡ get_or ms i x →
-    (so_far all a : Answer) → a ≡ member_at J Empty (is_addition marker i) (out-SequenceOrSetMember x) (field_named fs (out-SequenceOrSetMember x).name) →
-    both so_far (members_at J Empty marker fs i (drop i ms)) ≡ all → both (both so_far a) (members_at J Empty marker fs (i + 1) (drop (i + 1) ms)) ≡ all
-members_next J marker fs ms i x lt is so_far all a e h =
+    (so_far all a r : Answer) → r ≡ both so_far a → a ≡ member_at J Empty (is_addition marker i) (out-SequenceOrSetMember x) (field_named fs (out-SequenceOrSetMember x).name) →
+    both so_far (members_at J Empty marker fs i (drop i ms)) ≡ all → both r (members_at J Empty marker fs (i + 1) (drop (i + 1) ms)) ≡ all
+members_next J marker fs ms i x lt is so_far all a r j e h =
     let rest = members_at J Empty marker fs (i + 1) (drop (i + 1) ms) in
-    both_through so_far a rest
+    ap (λ b. both b rest) j
+    ∙ both_through so_far a rest
     ∙ ap (λ b. both so_far (both b rest)) e
     ∙ ap (λ k. both so_far (both (member_at J Empty (is_addition marker i) (out-SequenceOrSetMember x) (field_named fs (out-SequenceOrSetMember x).name)) (members_at J Empty marker fs k (drop (i + 1) ms)))) (add-one i)
     ∙ ap (λ y. both so_far (members_at J Empty marker fs i (y ∷ drop (i + 1) ms))) is

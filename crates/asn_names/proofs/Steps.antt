@@ -1,10 +1,10 @@
 -- More steps never change a yes or a no.
-use Rattle.std.proofs.Common.{◌≡◌, ℕ, zero, suc, ◌+◌, List, [], ◌∷◌, Option, Some, None, refl, sym, subst, ap, arith}
+use Rattle.std.proofs.Common.{◌≡◌, ℕ, zero, suc, ◌+◌, List, [], ◌∷◌, Option, Some, None, refl, sym, subst, ap, ◌∙◌, arith}
 use Rattle.asn_tree.specs.declared.constraints.Constraint.{Constraint}
 use Rattle.asn_tree.specs.declared.constraints.Constraint.TheVariants.{SubtypeConstraint}
 use Rattle.asn_tree.specs.declared.constraints.ElementOrSetOperation.{ElementOrSetOperation}
 use Rattle.asn_tree.specs.declared.constraints.ElementOrSetOperation.TheVariants.{Element}
-use Rattle.asn_tree.specs.declared.types.ASN1Type.{ASN1Type-F, out-ASN1Type}
+use Rattle.asn_tree.specs.declared.types.ASN1Type.{ASN1Type, ASN1Type-F, out-ASN1Type}
 use Rattle.asn_tree.specs.declared.types.SequenceOrSet.{out-SequenceOrSet}
 use Rattle.asn_tree.specs.declared.types.SequenceOrSetMember.{SequenceOrSetMember, out-SequenceOrSetMember}
 use Rattle.std.specs.Prelude.{Bool}
@@ -12,6 +12,7 @@ use Rattle.asn_names.specs.Answers.{Answer, Yes, No, Unknown, both, each, Refine
 use Rattle.asn_names.specs.Definitions.{Definitions}
 use Rattle.asn_names.specs.Layers.{TypeLayer, StructLayer, MemberLayer}
 use Rattle.asn_names.specs.Judge.{Query, OfType, OfConstraint, OfOperation, OfElement, Judging, constrained, known_fields, is_addition, member_at, members_at, fields_at, place_of, place_at, type_at, operation_at, constraint_at, element_at, step, judge}
+use Rattle.asn_names.specs.Meaning.{Accepts, Rejects}
 use Rattle.asn_names.specs.Scopes.{Scope, Place}
 use Rattle.asn_names.specs.ValueTrees.{ValueTree, Struct, Fields, field_named}
 
@@ -96,3 +97,19 @@ more_steps defs n (suc m) q =
     let e : n + suc m ≡ suc (n + m) = omega arith in
     subst (λ k. Refines (judge defs n q) (judge defs k q)) (sym e)
     (refines_through _ _ _ (more_steps defs n m q) (judge_more defs (n + m) q))
+
+stays : (defs : Definitions) (n m : ℕ) (q : Query) (a : Answer) → IsKnown a → judge defs n q ≡ a → judge defs (n + m) q ≡ a
+stays defs n m q Yes h e = subst (λ x. Refines x (judge defs (n + m) q)) e (more_steps defs n m q)
+stays defs n m q No h e = subst (λ x. Refines x (judge defs (n + m) q)) e (more_steps defs n m q)
+stays defs n m q Unknown h e = absurd h
+
+pub one_answer : (defs : Definitions) (scope : Scope) (ty : ASN1Type) (t : ValueTree) → Accepts defs scope ty t → Rejects defs scope ty t → ⊥
+one_answer defs scope ty t (n, accepted) (m, rejected) =
+    let q = OfType scope ty t in
+    let same : m + n ≡ n + m = omega arith in
+    let a = stays defs n m q Yes tt accepted in
+    let b = ap (λ k. judge defs k q) (sym same) ∙ stays defs m n q No tt rejected in
+    differ (sym a ∙ b)
+  where
+    differ : Yes ≡ No → ⊥
+    differ e = cc

@@ -11,7 +11,7 @@ use Rattle.asn_names.specs.Given.{IsGiven}
 use Rattle.asn_names.specs.Judge.{Query, OfType, judge}
 use Rattle.asn_names.specs.Kept.{given_definitions, retagged}
 use Rattle.asn_names.specs.Layers.{TypeLayer}
-use Rattle.asn_names.specs.Meaning.{AcceptsAlike, IsDecided, is_plain}
+use Rattle.asn_names.specs.Meaning.{Accepts, AcceptsAlike, IsDecided, Rejects, is_plain}
 use Rattle.asn_names.specs.Occurrences.{names_in}
 use Rattle.asn_names.specs.Scopes.{Scope}
 use Rattle.asn_names.specs.ValueTrees.{ValueTree}
@@ -19,6 +19,10 @@ use Rattle.asn_names.specs.ValueTrees.{ValueTree}
 -- More steps never change a yes or a no.
 abbrev pub MoreSteps : Type 0
 MoreSteps = (defs : Definitions) (n m : ℕ) (q : Query) → Refines (judge defs n q) (judge defs (n + m) q)
+
+-- No tree is both accepted and rejected.
+abbrev pub OneAnswer : Type 0
+OneAnswer = (defs : Definitions) (scope : Scope) (ty : ASN1Type) (t : ValueTree) → Accepts defs scope ty t → Rejects defs scope ty t → ⊥
 
 -- whether one level of a type is no type reference
 abbrev pub is_head : TypeLayer → Bool

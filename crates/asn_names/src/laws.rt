@@ -2,11 +2,16 @@
 //!
 //! They speak of the definitions in specs/ alone. The layers above stand on them: what they rewrite keeps its meaning.
 
-ghost use Rattle.asn_names.specs.Laws.{EveryTreeDecided, LinkedAcceptsAlike, MoreSteps, RetaggingKeepsJudgement, RetaggingKeepsNames, RetaggingKeepsPlainForm, SeesGiven};
+ghost use Rattle.asn_names.specs.Laws.{EveryTreeDecided, LinkedAcceptsAlike, MoreSteps, OneAnswer, RetaggingKeepsJudgement, RetaggingKeepsNames, RetaggingKeepsPlainForm, SeesGiven};
 
 /// More steps never change a yes or a no: only an unknown answer may become another.
 pub fn more_steps()
     ensures { MoreSteps }
+{}
+
+/// No tree is both accepted and rejected.
+pub fn one_answer()
+    ensures { OneAnswer }
 {}
 
 /// Every tree is accepted or rejected by the type of a clean definition, where no definition's own type is a type

@@ -10,11 +10,14 @@ mod judge;
 mod laws;
 mod look;
 mod names;
+#[cfg(test)]
+mod tests;
 mod trees;
 
 pub use faults::Fault;
+pub use judge::judge_type;
 pub use laws::{
-    every_tree_decided, linked_accepts_alike, more_steps, retagging_keeps_judgement,
+    every_tree_decided, linked_accepts_alike, more_steps, one_answer, retagging_keeps_judgement,
     retagging_keeps_names, retagging_keeps_plain_form, sees_given,
 };
 pub use names::{Names, Place};

@@ -30,12 +30,10 @@ judge_members-loop-number-preserved t c =
     let fs = shown_fields c.args.fields.now in
     let i = c.loop-number.number in
     let m = c.member-item.result in
-    let lt : i < length c.as_slice-member-items.result.now = omega arith in
     let within : i < length x.members = omega (arith, ap length c.as_slice-member-items.ensures) in
-    ap (λ a. both a (members_at J Empty x.extensible fs (i + 1) (drop (i + 1) x.members))) c.and-answer.ensures
-    ∙ members_next J x.extensible fs x.members i m within
+    members_next J x.extensible fs x.members i m within
     (c.member-item.is ∙ ap (λ ms. get_or ms i m) c.as_slice-member-items.ensures)
-    c.loop-number.answer _ c.judge_member.result
+    c.loop-number.answer _ c.judge_member.result c.and-answer.result c.and-answer.ensures
     (c.judge_member.ensures
     ∙ ap (λ b. member_at J Empty b (out-SequenceOrSetMember m) (field_named fs (out-SequenceOrSetMember m).name)) c.is_added-is_addition.ensures)
     c.loop-number.invariant

@@ -1,0 +1,99 @@
+-- What numbers and tagging environments leave as it is.
+use Rattle.std.proofs.Common.{◌≡◌, ℕ, ◌+◌, List, [], ◌∷◌, ◌++◌, Bool, true, false, Option, Some, None, map, refl, sym, ap, ◌∙◌, subst}
+use Rattle.std.specs.Prelude.{is_none, count_by, nat_lt, if◌then◌else◌, ◌||◌}
+use Rattle.std.specs.List.{list_any, fold}
+use Rattle.std.specs.Str.{bytes_eq}
+use Rattle.std.proofs.lemmas.List.Folds.{fold-map}
+use Rattle.asn_tree.specs.declared.definitions.ToplevelDefinition.{ToplevelDefinition}
+use Rattle.asn_tree.specs.declared.definitions.ToplevelDefinition.TheVariants.{TypeDef}
+use Rattle.asn_tree.specs.declared.headers.TaggingEnvironment.{TaggingEnvironment}
+use Rattle.asn_check.specs.Meaning.{KeepsMeaning, Meant}
+use Rattle.asn_check.specs.Warnings.{fault_at, fault_on, of_fault, of_duplicate, warnings_on, warnings_of}
+use Rattle.asn_names.specs.Definitions.{Definitions, Module, definitions_of, see, type_of, name_of, is_named, is_duplicate, IsStanding}
+use Rattle.asn_names.specs.Faults.{is_missing, fault_of}
+use Rattle.asn_names.specs.declared.faults.Fault.TheVariants.{MissingDependency}
+use Rattle.asn_names.specs.Given.{IsGiven}
+use Rattle.asn_names.specs.Kept.{given, given_from, given_since, given_definitions}
+use Rattle.asn_names.specs.Laws.{SeesGiven, LinkedAcceptsAlike, RetaggingKeepsNames, RetaggingKeepsPlainForm}
+use Rattle.asn_names.specs.Meaning.{is_plain}
+use Rattle.asn_names.specs.Occurrences.{names_of}
+
+pub given_type_plain : RetaggingKeepsPlainForm → (environment : TaggingEnvironment) (home item : ℕ) (d : ToplevelDefinition) → is_plain (type_of (given environment home item d)) ≡ is_plain (type_of d)
+given_type_plain law environment home item (TypeDef d) = law environment d.ty
+
+given_names : RetaggingKeepsNames → (environment : TaggingEnvironment) (home item : ℕ) (d : ToplevelDefinition) → names_of (given environment home item d) ≡ names_of d
+given_names law environment home item (TypeDef d) = law environment d.ty
+
+given_name : (environment : TaggingEnvironment) (home item : ℕ) (d : ToplevelDefinition) → name_of (given environment home item d) ≡ name_of d
+given_name environment home item (TypeDef d) = refl
+
+pub keeps : SeesGiven → LinkedAcceptsAlike → RetaggingKeepsPlainForm → (reading : List Module) (linked : Definitions) → IsStanding (given_definitions reading) linked → KeepsMeaning reading linked
+keeps sees alike plain reading linked standing name d seen clean free = go (see (given_definitions reading) name) refl (subst (λ o. IsGiven o (see (given_definitions reading) name)) seen (sees reading name))
+  where
+    go : (o : Option ToplevelDefinition) → see (given_definitions reading) name ≡ o → IsGiven (Some d) (see (given_definitions reading) name) → Meant reading linked name d
+    go None e g = absurd (subst (IsGiven (Some d)) e g)
+    go (Some e) is g =
+        let is_given = subst (IsGiven (Some d)) is g in
+        let stands = standing.each name ∙ is in
+        (e, stands, alike reading linked standing name d e seen stands, ap (λ x. is_plain (type_of x)) is_given.3 ∙ given_type_plain plain is_given.0 is_given.1 is_given.2 d)
+
+module _ (sees : SeesGiven) (same_names : RetaggingKeepsNames) (reading : List Module) where
+  missing_same : (name : List ℕ) → is_missing (given_definitions reading) name ≡ is_missing (definitions_of reading) name
+  missing_same name = go (see (definitions_of reading) name) (see (given_definitions reading) name) (sees reading name)
+    where
+      go : (o p : Option ToplevelDefinition) → IsGiven o p → is_none p ≡ is_none o
+      go None None g = refl
+      go (Some d) (Some e) g = refl
+      go (Some d) None g = absurd g
+      go None (Some e) g = absurd g
+
+  any_same : (names : List (List ℕ)) → list_any (is_missing (given_definitions reading)) names ≡ list_any (is_missing (definitions_of reading)) names
+  any_same [] = refl
+  any_same (n ∷ ns) = ap (λ b. b || list_any (is_missing (given_definitions reading)) ns) (missing_same n) ∙ ap (λ b. is_missing (definitions_of reading) n || b) (any_same ns)
+
+  fault_same : (environment : TaggingEnvironment) (home item : ℕ) (d : ToplevelDefinition) → fault_of (given_definitions reading) (given environment home item d) ≡ fault_of (definitions_of reading) d
+  fault_same environment home item d =
+      ap (λ ns. if list_any (is_missing (given_definitions reading)) ns then Some MissingDependency else None) (given_names same_names environment home item d)
+      ∙ ap (λ b. if b then Some MissingDependency else None) (any_same (names_of d))
+
+  fault_on_same : (name : List ℕ) → fault_on (given_definitions reading) name ≡ fault_on (definitions_of reading) name
+  fault_on_same name = go (see (definitions_of reading) name) (see (given_definitions reading) name) (sees reading name)
+    where
+      go : (o p : Option ToplevelDefinition) → IsGiven o p → fault_at (given_definitions reading) p ≡ fault_at (definitions_of reading) o
+      go None None g = refl
+      go (Some d) (Some e) g = ap (fault_of (given_definitions reading)) g.3 ∙ fault_same g.0 g.1 g.2 d
+      go (Some d) None g = absurd g
+      go None (Some e) g = absurd g
+
+  names_from : (environment : TaggingEnvironment) (home item : ℕ) (ds : Definitions) → map name_of (given_from environment home item ds) ≡ map name_of ds
+  names_from environment home item [] = refl
+  names_from environment home item (d ∷ ds) = ap (λ n. n ∷ map name_of (given_from environment home (item + 1) ds)) (given_name environment home item d) ∙ ap (λ ns. name_of d ∷ ns) (names_from environment home (item + 1) ds)
+
+  map_append : (xs ys : Definitions) → map name_of (xs ++ ys) ≡ map name_of xs ++ map name_of ys
+  map_append [] ys = refl
+  map_append (x ∷ xs) ys = ap (λ ns. name_of x ∷ ns) (map_append xs ys)
+
+  names_since : (home : ℕ) (ms : List Module) → map name_of (given_since home ms) ≡ map name_of (definitions_of ms)
+  names_since home [] = refl
+  names_since home (m ∷ ms) =
+      map_append (given_from m.0.tagging_environment home 0 m.1) (given_since (home + 1) ms)
+      ∙ ap (λ ns. ns ++ map name_of (given_since (home + 1) ms)) (names_from m.0.tagging_environment home 0 m.1)
+      ∙ ap (λ ns. map name_of m.1 ++ ns) (names_since (home + 1) ms)
+      ∙ sym (map_append m.1 (definitions_of ms))
+
+  counted : (name : List ℕ) (ds : Definitions) → count_by (is_named name) ds ≡ count_by (λ n. bytes_eq n name) (map name_of ds)
+  counted name ds = sym (fold-map (λ k n. k + (if bytes_eq n name then 1 else 0)) name_of 0 ds)
+
+  duplicate_same : (name : List ℕ) → is_duplicate (given_definitions reading) name ≡ is_duplicate (definitions_of reading) name
+  duplicate_same name =
+      ap (nat_lt 1) (counted name (given_definitions reading) ∙ ap (count_by (λ n. bytes_eq n name)) (names_since 0 reading) ∙ sym (counted name (definitions_of reading)))
+
+  on_same : (name : List ℕ) → warnings_on (given_definitions reading) name ≡ warnings_on (definitions_of reading) name
+  unfolding warnings_on
+  on_same name =
+      ap (λ f. of_fault name f ++ of_duplicate name (is_duplicate (given_definitions reading) name)) (fault_on_same name)
+      ∙ ap (λ b. of_fault name (fault_on (definitions_of reading) name) ++ of_duplicate name b) (duplicate_same name)
+
+  pub stay : (names : List (List ℕ)) → warnings_of (given_definitions reading) names ≡ warnings_of (definitions_of reading) names
+  stay [] = refl
+  stay (n ∷ ns) = ap (λ ws. ws ++ warnings_of (given_definitions reading) ns) (on_same n) ∙ ap (λ ws. warnings_on (definitions_of reading) n ++ ws) (stay ns)
