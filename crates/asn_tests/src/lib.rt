@@ -1,0 +1,21 @@
+//! Tests of the whole house, from a text to its listing, and of each room's calls on what the others make.
+//!
+//! The room above all others, which nothing stands on. It holds what no clause says: rows of texts with the listings
+//! that the notation gives them, and each call once with ample memory. One module for each topic; `texts` has what
+//! they share.
+#![tactic(auto)]
+
+#[cfg(test)]
+mod faults;
+#[cfg(test)]
+mod names;
+#[cfg(test)]
+mod rows;
+#[cfg(test)]
+mod rules;
+#[cfg(test)]
+mod text;
+#[cfg(test)]
+mod texts;
+#[cfg(test)]
+mod trees;

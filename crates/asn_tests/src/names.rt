@@ -1,0 +1,57 @@
+//! Names over the definitions of two modules.
+
+use crate::texts::{definitions_of, reading_of};
+use asn_memory::List;
+use asn_names::{Fault, Names};
+use asn_tree::{ASN1Type, ToplevelDefinition};
+use std::alloc::Global;
+use std::test::Fail;
+
+// `Id` stands in both modules, and `B` names a type of the other module.
+const TEXT: &str =
+    "M DEFINITIONS ::= BEGIN Id ::= BOOLEAN A ::= BOOLEAN END N DEFINITIONS ::= BEGIN Id ::= SEQUENCE { a X } B ::= SEQUENCE { a A } END";
+
+fn definitions(alloc: Global) -> Result<List<ToplevelDefinition>, Fail> {
+    let reading = reading_of(alloc, TEXT)?;
+    Ok(definitions_of(alloc, &reading)?)
+}
+
+// Whether the type is a SEQUENCE.
+fn is_sequence(definition: &ToplevelDefinition) -> bool {
+    match definition {
+        ToplevelDefinition::TypeDef(definition) => {
+            matches!(&definition.ty, ASN1Type::Sequence(_))
+        }
+    }
+}
+
+#[test]
+fn what_a_name_stands_for(rt: HostRuntime) -> Result<(), Fail> {
+    let definitions = definitions(rt.alloc())?;
+    let names = Names::new(rt.alloc(), &definitions)?;
+    assert_eq!(rt; names.see("Id").map(is_sequence), Some(true));
+    assert_eq!(rt; names.see("A").map(is_sequence), Some(false));
+    assert!(rt; names.see("X").is_none());
+    assert!(rt; names.is_duplicate("Id"));
+    assert!(rt; !names.is_duplicate("A"));
+    assert!(rt; !names.is_duplicate("X"));
+    Ok(())
+}
+
+#[test]
+fn what_stands(rt: HostRuntime) -> Result<(), Fail> {
+    let definitions = definitions(rt.alloc())?;
+    let names = Names::new(rt.alloc(), &definitions)?;
+    let standing = names.standing(rt.alloc())?;
+    assert_eq!(rt; standing.len(), 3);
+    for (at, name, fault) in [
+        (0, "A", None),
+        (1, "B", None),
+        (2, "Id", Some(Fault::MissingDependency)),
+    ] {
+        let definition = standing.get(at).ok_or("a definition")?;
+        assert_eq!(rt; definition.name().as_str(), name);
+        assert_eq!(rt; names.fault(definition), fault, "of {name}");
+    }
+    Ok(())
+}

@@ -1,0 +1,134 @@
+//! Texts, and what a run under the word `link` writes for each.
+
+use crate::texts::{LISTING, WHOLE, module, words_of};
+use asn_tool::{Source, Status, SureSink, SureSource, run};
+use std::alloc::Global;
+use std::process::Abort;
+use std::test::Fail;
+
+// More bytes than any listing here has.
+const ROOM: usize = 4096;
+
+fn assert_row(
+    rt: &impl Abort,
+    alloc: Global,
+    text: &[u8],
+    listing: &str,
+    status: Status,
+) -> Result<(), Fail> {
+    let words = words_of(alloc, &["link"])?;
+    let mut source = SureSource::new(text);
+    let mut sink = SureSink::new(alloc, ROOM)?;
+    let ended = run(alloc, words.as_slice(), &mut source, &mut sink);
+    assert_eq!(rt; sink.bytes(), Some(listing.as_bytes()), "at {text:?}");
+    assert_eq!(rt; ended.status, status, "at {text:?}");
+    Ok(())
+}
+
+// The words are refused, and the source still has its whole text.
+fn assert_usage(rt: &impl Abort, alloc: Global, words: &[&str]) -> Result<(), Fail> {
+    let words = words_of(alloc, words)?;
+    let mut source = SureSource::new(WHOLE.as_bytes());
+    let mut sink = SureSink::new(alloc, ROOM)?;
+    let ended = run(alloc, words.as_slice(), &mut source, &mut sink);
+    assert_eq!(rt;
+        sink.bytes(),
+        Some(b"error usage\n".as_slice()),
+        "at {words:?}"
+    );
+    assert_eq!(rt; ended.status, Status::Usage, "at {words:?}");
+    let mut room = [0; 256];
+    assert_eq!(rt; source.read(&mut room), Ok(WHOLE.len()), "at {words:?}");
+    assert!(rt; room.starts_with(WHOLE.as_bytes()), "at {words:?}");
+    Ok(())
+}
+
+#[test]
+fn whole_texts(rt: HostRuntime) -> Result<(), Fail> {
+    for (text, listing, status) in [
+        (WHOLE, LISTING, Status::Clean),
+        ("M DEFINITIONS ::= BEGIN END", "", Status::Clean),
+        (
+            "M DEFINITIONS ::= BEGIN Id ::= BOOLEAN END N DEFINITIONS ::= BEGIN Id ::= SEQUENCE { a BOOLEAN } END",
+            "type Id ::= SEQUENCE { a BOOLEAN }\nwarning Duplicate Id\n",
+            Status::Warned,
+        ),
+        ("", "error matching\n", Status::Matching),
+    ] {
+        assert_row(&rt, rt.alloc(), text.as_bytes(), listing, status)?;
+    }
+    Ok(())
+}
+
+#[test]
+fn bodies_of_a_module(rt: HostRuntime) -> Result<(), Fail> {
+    for (body, listing, status) in [
+        (
+            "A ::= SEQUENCE { a BOOLEAN, b B } B ::= INTEGER (0..7)",
+            "type A ::= SEQUENCE { a BOOLEAN, b B }\ntype B ::= INTEGER (0..7)\n",
+            Status::Clean,
+        ),
+        (
+            "A ::= SEQUENCE { a X }",
+            "type A ::= SEQUENCE { a X }\nwarning MissingDependency A\n",
+            Status::Warned,
+        ),
+        // Both faults stand on one name, and Duplicate comes last.
+        (
+            "A ::= SEQUENCE { a X } A ::= SEQUENCE { a X }",
+            "type A ::= SEQUENCE { a X }\nwarning MissingDependency A\nwarning Duplicate A\n",
+            Status::Warned,
+        ),
+        // The byte of `-` is below those of digits, and a name before those that it begins.
+        (
+            "B ::= BOOLEAN A1 ::= BOOLEAN A ::= BOOLEAN A-b ::= BOOLEAN",
+            "type A ::= BOOLEAN\ntype A-b ::= BOOLEAN\ntype A1 ::= BOOLEAN\ntype B ::= BOOLEAN\n",
+            Status::Clean,
+        ),
+        (
+            "A ::= INTEGER ( - 3 .. -2 )",
+            "type A ::= INTEGER (-3..-2)\n",
+            Status::Clean,
+        ),
+        ("A ::= NULL", "error matching\n", Status::Matching),
+        ("A ::= INTEGER (5..1)", "error matching\n", Status::Matching),
+    ] {
+        let alloc = rt.alloc();
+        let text = module(alloc, body)?;
+        assert_row(&rt, alloc, text.as_bytes(), listing, status)?;
+    }
+    Ok(())
+}
+
+#[test]
+fn bytes_that_are_no_text(rt: HostRuntime) -> Result<(), Fail> {
+    assert_row(
+        &rt,
+        rt.alloc(),
+        &[255],
+        "error matching\n",
+        Status::Matching,
+    )
+}
+
+#[test]
+fn other_words(rt: HostRuntime) -> Result<(), Fail> {
+    let alloc = rt.alloc();
+    assert_usage(&rt, alloc, &[])?;
+    assert_usage(&rt, alloc, &["link", "link"])?;
+    assert_usage(&rt, alloc, &["link", "--depth"])?;
+    assert_usage(&rt, alloc, &["Link"])?;
+    assert_usage(&rt, alloc, &[""])
+}
+
+#[test]
+fn numbers_of_statuses(rt: HostRuntime) {
+    for (status, number) in [
+        (Status::Clean, 0),
+        (Status::Warned, 1),
+        (Status::Matching, 2),
+        (Status::Usage, 8),
+    ] {
+        assert_eq!(rt; status.number(), number, "of {status:?}");
+    }
+}

@@ -1,0 +1,82 @@
+//! The trees that a run hands out.
+
+use crate::texts::{WHOLE, words_of};
+use asn_tool::{Ended, SureSink, SureSource, run};
+use asn_tree::{
+    ASN1Type, ASN1Value, Constraint, ElementOrSetOperation, Integer, SubtypeElement,
+    TaggingEnvironment, ToplevelDefinition,
+};
+use std::alloc::Global;
+use std::test::Fail;
+
+fn run_whole(alloc: Global) -> Result<Ended, Fail> {
+    let words = words_of(alloc, &["link"])?;
+    let mut source = SureSource::new(WHOLE.as_bytes());
+    let mut sink = SureSink::new(alloc, 256)?;
+    Ok(run(alloc, words.as_slice(), &mut source, &mut sink))
+}
+
+// The ends of a range of numbers, both closed, without an extension marker.
+fn ends_of(element: &SubtypeElement) -> Option<(i128, i128)> {
+    match element {
+        SubtypeElement::ValueRange {
+            min: Some(ASN1Value::Integer(min)),
+            max: Some(ASN1Value::Integer(max)),
+            min_open: false,
+            max_open: false,
+            extensible: false,
+        } => Some((*min, *max)),
+        _ => None,
+    }
+}
+
+// The range that is an INTEGER's one constraint.
+fn range_of(integer: &Integer) -> Option<(i128, i128)> {
+    match integer.constraints.as_slice() {
+        [Constraint::SubtypeConstraint(set)] => match &set.set {
+            ElementOrSetOperation::Element(element) => ends_of(element),
+        },
+        _ => None,
+    }
+}
+
+// The range of a definition of an INTEGER.
+fn range_in(definition: &ToplevelDefinition) -> Option<(i128, i128)> {
+    match definition {
+        ToplevelDefinition::TypeDef(definition) => match &definition.ty {
+            ASN1Type::Integer(integer) => range_of(integer),
+            _ => None,
+        },
+    }
+}
+
+#[test]
+fn a_reading(rt: HostRuntime) -> Result<(), Fail> {
+    let ended = run_whole(rt.alloc())?;
+    let reading = ended.reading.as_ref().ok_or("a reading")?;
+    assert_eq!(rt; reading.len(), 1);
+    let (header, definitions) = reading.get(0).ok_or("a module")?;
+    assert_eq!(rt; header.name.as_str(), "TestModule");
+    assert_eq!(rt; header.tagging_environment, TaggingEnvironment::Automatic);
+    assert!(rt; header.imports.is_empty() && header.exports.is_none());
+    assert_eq!(rt; definitions.len(), 1);
+    let definition = definitions.get(0).ok_or("a definition")?;
+    assert_eq!(rt; definition.name().as_str(), "My-test-integer");
+    assert_eq!(rt; definition.get_index(), None);
+    assert_eq!(rt; range_in(definition), Some((1, 128)));
+    Ok(())
+}
+
+#[test]
+fn a_linked_answer(rt: HostRuntime) -> Result<(), Fail> {
+    let ended = run_whole(rt.alloc())?;
+    let linked = ended.linked.as_ref().ok_or("a linked answer")?;
+    assert_eq!(rt; linked.modules.len(), 1);
+    assert_eq!(rt; linked.definitions.len(), 1);
+    assert!(rt; linked.warnings.is_empty());
+    let definition = linked.definitions.get(0).ok_or("a definition")?;
+    assert_eq!(rt; definition.name().as_str(), "My-test-integer");
+    assert_eq!(rt; definition.get_index(), Some((0, 0)));
+    assert_eq!(rt; range_in(definition), Some((1, 128)));
+    Ok(())
+}
