@@ -1,5 +1,8 @@
 #!/usr/bin/env python3
-"""Times a program on texts of 10 KB, 100 KB and 1 MB, and prints a table: measure.py PROGRAM.
+"""Times a program on growing texts, and prints tables: measure.py PROGRAM.
+
+The first table is over texts of 10 KB, 100 KB and 1 MB of all forms, the second over chains of 1,000, 10,000 and
+100,000 definitions, each of which names the next: looking names up takes the most time there.
 
 run.sh calls it. The best of five runs counts. Peak memory is that of one further run, as GNU time tells it.
 """
@@ -10,9 +13,11 @@ import sys
 import tempfile
 import time
 
+from make_chain import chain
 from make_text import text
 
 SIZES = (10_000, 100_000, 1_000_000)
+NAMES = (1_000, 10_000, 100_000)
 RUNS = 5
 GNU_TIME = "/usr/bin/time"
 # Clean, and with warnings: the two statuses of a text that was read and linked.
@@ -42,11 +47,11 @@ def peak_memory(command, source):
         return int(told.read().split()[-1])
 
 
-def row(command, size, folder):
-    """Bytes, status, best seconds and peak memory in KB on a text of about `size` bytes."""
-    source = os.path.join(folder, f"{size}.asn1")
+def row(command, content, folder):
+    """Bytes, status, best seconds and peak memory in KB on a text."""
+    source = os.path.join(folder, "text.asn1")
     with open(source, "w", encoding="ascii") as out:
-        out.write(text(size))
+        out.write(content)
     runs = [run(command, source) for _ in range(RUNS)]
     best = min(seconds for seconds, _, _ in runs)
     return os.path.getsize(source), runs[-1][1], best, peak_memory(command, source)
@@ -69,7 +74,10 @@ def main():
         sys.exit("usage: measure.py PROGRAM")
     command = [sys.argv[1], "link"]
     with tempfile.TemporaryDirectory() as folder:
-        print_table([row(command, size, folder) for size in SIZES])
+        print_table([row(command, text(size), folder) for size in SIZES])
+        print()
+        print("chains of", ", ".join(f"{count:,}" for count in NAMES), "definitions")
+        print_table([row(command, chain(count), folder) for count in NAMES])
 
 
 if __name__ == "__main__":

@@ -7,7 +7,7 @@ use Rattle.asn_rules.specs.declared.node.Node.TheViews.{out-Node}
 use Rattle.asn_rules.specs.Nodes.{child_among, child_of, at_child, at_children, made}
 use Rattle.asn_rules.proofs.Nodes.{para_out, paired, made_paired, made_all_paired}
 use Rattle.asn_modules.specs.Parts.{name_of}
-use Rattle.asn_modules.specs.Types.{Typed, typed_step, a_boolean, a_member, a_struct, integer_of, reference_of, sequence_of, first_of, first_type_of, nodes, first_type, type_of, body_of, components_of, component_of, member_of}
+use Rattle.asn_modules.specs.Types.{Typed, typed_step, a_boolean, a_member, integer_of, reference_of, sequence_of, first_of, first_type_of, nodes, first_type, type_of, body_of, components_of, component_of, member_of}
 
 module _ (text : List ℕ) where
   nodes_paired : (ns : List Node) → nodes (paired Typed (typed_step text) ns) ≡ ns

@@ -1,5 +1,5 @@
 -- The modules that nodes are.
-use Rattle.std.specs.Prelude.{ℕ, List, [], ◌∷◌, nat_eq, if◌then◌else◌, Option, Some, None}
+use Rattle.std.specs.Prelude.{ℕ, List, [], ◌∷◌, nat_eq, if◌then◌else◌, None}
 use Rattle.asn_rules.specs.declared.names.TheConstants.{ASN_MODULE, DEFINITION, ENVIRONMENTS, IDENTIFIER, MODULE_REFERENCE, TAG_DEFAULT, TITLE_CASE_IDENTIFIER, TOP_LEVEL_TYPE_DECLARATION}
 use Rattle.asn_rules.specs.declared.node.Node.{Node}
 use Rattle.asn_rules.specs.declared.node.Node.TheViews.{out-Node}

@@ -1,5 +1,5 @@
 -- The types that nodes are.
-use Rattle.std.specs.Prelude.{ℕ, ℤ, pos, List, [], ◌∷◌, map, nat_eq, if◌then◌else◌, true, false, Option, Some, None}
+use Rattle.std.specs.Prelude.{ℕ, ℤ, pos, List, [], ◌∷◌, map, nat_eq, if◌then◌else◌, false, Option, Some, None}
 use Rattle.asn_rules.specs.declared.names.TheConstants.{ASN1_TYPE, COMPONENT_LIST, CONSTRAINT, ELSEWHERE_DECLARED_TYPE, IDENTIFIER, INTEGER, SEQUENCE, SEQUENCE_COMPONENT, SEQUENCE_OR_SET_MEMBER, STRUCT_BODY, TITLE_CASE_IDENTIFIER, VALUE_RANGE}
 use Rattle.asn_rules.specs.declared.node.Node.{Node}
 use Rattle.asn_rules.specs.declared.node.Node.TheViews.{out-Node}
@@ -11,7 +11,7 @@ use Rattle.asn_tree.specs.declared.constraints.SubtypeElement.TheVariants.{Value
 use Rattle.asn_tree.specs.declared.values.ASN1Value.TheVariants.{Integer as Number}
 use Rattle.asn_tree.specs.declared.types.ASN1Type.{ASN1Type, ASN1Type-F, roll-ASN1Type}
 use Rattle.asn_tree.specs.declared.types.ASN1Type.TheVariants.{Boolean, Integer, ElsewhereDeclaredType}
-use Rattle.asn_tree.specs.declared.types.SequenceOrSet.{SequenceOrSet, roll-SequenceOrSet}
+use Rattle.asn_tree.specs.declared.types.SequenceOrSet.{roll-SequenceOrSet}
 use Rattle.asn_tree.specs.declared.types.SequenceOrSetMember.{SequenceOrSetMember, roll-SequenceOrSetMember}
 use Rattle.asn_modules.specs.Parts.{name_of, number_of}
 
