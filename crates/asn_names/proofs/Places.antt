@@ -1,5 +1,5 @@
 -- What the place of a name in a list tells.
-use Rattle.std.proofs.Common.{◌≡◌, ℕ, zero, suc, ◌+◌, ◌<◌, List, [], ◌∷◌, ◌++◌, Bool, true, false, Option, Some, None, length, take, get_or, refl, sym, ap, ◌∙◌, subst, arith, rules, append_assoc, length-append, add-zero, add-one}
+use Rattle.std.proofs.Common.{◌≡◌, ℕ, zero, suc, ◌+◌, ◌<◌, List, [], ◌∷◌, ◌++◌, Bool, true, false, Option, Some, None, length, take, get_or, refl, sym, ap, ◌∙◌, subst, arith, rules, append_assoc, length-append, add-zero}
 use Rattle.std.specs.Prelude.{is_some, if◌then◌else◌, fold, count_by, nat_lt, slice_get, cond}
 use Rattle.std.proofs.lemmas.List.{take_more, length-take}
 use Rattle.std.proofs.lemmas.Bool.Decides.{nat_tests}

@@ -17,7 +17,7 @@ use Rattle.std.proofs.lemmas.Slice.Eq.{bytes_eq-Decides}
 use Rattle.asn_tree.specs.declared.definitions.ToplevelDefinition.{ToplevelDefinition}
 use Rattle.asn_names.specs.declared.names.Place.{Place}
 use Rattle.asn_names.specs.Definitions.{Definitions, see, or_else, is_named, name_of, IsStanding}
-use Rattle.asn_names.specs.Index.{place_in, IsIndexOf, found_at, before}
+use Rattle.asn_names.specs.Index.{IsIndexOf, found_at, before}
 use Rattle.asn_names.proofs.Places.{Tells, IsThere, tells}
 
 -- what a name stands for has the name

@@ -26,11 +26,14 @@ fn number_of(ended: Ended) -> u8 {
 fn main(rt: HostRuntime) -> ExitCode {
     let mut source = StdSource::new(rt.stdin());
     let mut sink = StdSink::new(rt.stdout());
-    match words(&rt) {
-        Ok(words) => {
-            let ended = run(rt.alloc(), words.as_slice(), &mut source, &mut sink);
-            ExitCode::from(number_of(ended))
+    let words = match words(&rt) {
+        Ok(words) => words,
+        Err(error) if error.kind() == io::ErrorKind::OutOfMemory => {
+            return ExitCode::from(Status::OutOfMemory.number());
         }
-        Err(_) => ExitCode::from(Status::OutOfMemory.number()),
-    }
+        // A word that is no UTF-8 is no word that the program knows: as good as none.
+        Err(_) => Vec::new(rt.alloc()),
+    };
+    let ended = run(rt.alloc(), words.as_slice(), &mut source, &mut sink);
+    ExitCode::from(number_of(ended))
 }

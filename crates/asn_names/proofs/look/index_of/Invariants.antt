@@ -1,4 +1,4 @@
-use Rattle.std.proofs.Common.{◌≡◌, ℕ, List, take}
+use Rattle.std.proofs.Common.{take}
 use Rattle.asn_names.specs.Index.{IsIndexOf}
 use Rattle.asn_names.proofs.look.index_of.Given as goal
 

@@ -1,4 +1,4 @@
-use Rattle.std.proofs.Common.{◌≡◌, ◌<◌, suc, length, drop, get_or, sym, ap, ◌∙◌, arith, true, add-one, drop-cons}
+use Rattle.std.proofs.Common.{◌<◌, suc, length, drop, get_or, sym, ap, ◌∙◌, arith, drop-cons}
 use Rattle.std.specs.Prelude.{is_none, ◌||◌}
 use Rattle.std.specs.List.{list_any}
 use Rattle.asn_tree.specs.declared.types.SequenceOrSetMember.{out-SequenceOrSetMember}

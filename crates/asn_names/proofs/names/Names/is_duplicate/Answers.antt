@@ -1,4 +1,4 @@
-use Rattle.std.proofs.Common.{◌≡◌, sym, ap, ◌∙◌, subst}
+use Rattle.std.proofs.Common.{sym, ap, ◌∙◌, subst}
 use Rattle.std.specs.Prelude.{nat_lt}
 use Rattle.asn_names.proofs.Places.{Tells, tells}
 use Rattle.asn_names.proofs.names.Names.is_duplicate.Goals as goal

@@ -1,4 +1,4 @@
-use Rattle.std.proofs.Common.{◌≡◌, Option, Some, None, sym, ◌∙◌, subst}
+use Rattle.std.proofs.Common.{sym, ◌∙◌, subst}
 use Rattle.asn_names.proofs.Places.{Tells, tells}
 use Rattle.asn_names.proofs.names.Names.see.Goals as goal
 

@@ -1,4 +1,3 @@
-use Rattle.std.proofs.Common.{◌≡◌, IfOk, sym, subst}
 use Rattle.asn_names.specs.Definitions.{IsStanding}
 use Rattle.asn_names.proofs.Standing.{is_standing, if_ok}
 use Rattle.asn_names.proofs.names.Names.standing.Goals as goal
