@@ -1,22 +1,18 @@
 -- What the course of a run and the delivery of what it writes promise.
-use Rattle.std.proofs.Common.{◌≡◌, ◌<◌, ◌⊎◌, inl, inr, ℕ, List, Option, Some, None, length, refl, sym, ap, ◌∙◌, subst}
-use Rattle.std.specs.Prelude.{IsTrue, IfSome, String}
+use Rattle.std.proofs.Common.{◌≡◌, ◌⊎◌, inl, inr, ℕ, List, Option, Some, None, refl, sym, ap, ◌∙◌, subst}
+use Rattle.std.specs.Prelude.{IfSome, String}
 use Rattle.std.specs.Global.{Global}
 use Rattle.asn_check.specs.declared.linked.Linked.{Linked}
-use Rattle.asn_check.specs.Listing.{listing_of}
-use Rattle.asn_modules.specs.Modules.{reading_of}
 use Rattle.asn_modules.specs.Whole.{IsReading}
-use Rattle.asn_names.specs.Definitions.{Definitions, Module, definitions_of, see, type_of}
-use Rattle.asn_names.specs.Meaning.{is_plain, IsPlain}
+use Rattle.asn_names.specs.Definitions.{Module, definitions_of, see, type_of}
+use Rattle.asn_names.specs.Meaning.{IsPlain}
 use Rattle.asn_check.specs.Linked.{IsLinkedOf}
-use Rattle.asn_tree.specs.declared.definitions.ToplevelDefinition.{ToplevelDefinition}
 use Rattle.asn_tool.specs.declared.ended.Ended.{Ended}
 use Rattle.asn_tool.specs.declared.status.Status.{Status}
 use Rattle.asn_tool.specs.declared.status.Status.TheVariants.{Clean, Warned, Matching, TooDeep, NotUtf8, TooLong, ReadFault, WriteFault, Usage, OutOfMemory}
 use Rattle.asn_tool.specs.Faults.{HasCause}
-use Rattle.asn_tool.specs.Giving.{TakesFront}
 use Rattle.asn_tool.specs.Headline.{IsListing, MeansWhatIsRead, Prints, Decides, IsNoSplit}
-use Rattle.asn_tool.specs.Run.{IsLink, IsValidText, IsTaken, NoTrees, Answers, HasTrees, Comes, Judges, Course, output, Delivered, Ends, status_of}
+use Rattle.asn_tool.specs.Run.{IsLink, IsValidText, IsTaken, NoTrees, HasTrees, Course, output, Delivered, Ends}
 use Rattle.asn_tool.specs.Sink.{Takes}
 use Rattle.asn_tool.specs.Status.{line}
 use Rattle.asn_tool.proofs.Plain.{reading_plain}

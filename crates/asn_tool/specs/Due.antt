@@ -6,7 +6,7 @@ use Rattle.asn_check.specs.declared.linked.Linked.{Linked}
 use Rattle.asn_names.specs.Definitions.{Module}
 use Rattle.asn_tool.specs.declared.judging.Due.{Due}
 use Rattle.asn_tool.specs.declared.status.Status.{Status}
-use Rattle.asn_tool.specs.declared.status.Status.TheVariants.{Clean, Warned, OutOfMemory}
+use Rattle.asn_tool.specs.declared.status.Status.TheVariants.{OutOfMemory}
 use Rattle.asn_tool.specs.Run.{Comes, NoTrees, status_of}
 
 -- an error line

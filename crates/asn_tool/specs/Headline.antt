@@ -13,7 +13,7 @@ use Rattle.asn_tree.specs.declared.definitions.ToplevelDefinition.{ToplevelDefin
 use Rattle.asn_tool.specs.declared.ended.Ended.{Ended}
 use Rattle.asn_tool.specs.declared.status.Status.{Status}
 use Rattle.asn_tool.specs.declared.status.Status.TheVariants.{Clean, Warned, Matching, TooDeep, NotUtf8, TooLong}
-use Rattle.asn_tool.specs.Run.{IsTaken, IsValidText, status_of}
+use Rattle.asn_tool.specs.Run.{IsValidText, status_of}
 use Rattle.asn_tool.specs.Sink.{Takes}
 
 -- a listing was written

@@ -1,4 +1,3 @@
-use Rattle.std.proofs.Common.{◌≡◌, ◌∙◌}
 use Rattle.asn_check.proofs.link.link_reading.Goals as goal
 
 pub returns-clause-meaning : goal.returns-clause-meaning

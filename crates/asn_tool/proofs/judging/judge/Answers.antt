@@ -1,4 +1,4 @@
-use Rattle.std.proofs.Common.{◌≡◌, refl, sym, subst, length, ◌≤◌}
+use Rattle.std.proofs.Common.{refl, sym, subst, length, ◌≤◌}
 use Rattle.asn_tool.proofs.Validity.{too_long, short_enough}
 use Rattle.asn_tool.proofs.judging.judge.Goals as goal
 

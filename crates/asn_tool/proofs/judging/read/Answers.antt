@@ -1,4 +1,4 @@
-use Rattle.std.proofs.Common.{◌≡◌, refl, ap, arith, Err}
+use Rattle.std.proofs.Common.{refl, ap, arith, Err}
 use Rattle.asn_rules.specs.declared.grammar.Grammar.TheVariants.{First}
 use Rattle.asn_tool.proofs.Validity.{failing}
 use Rattle.asn_tool.proofs.judging.read.Goals as goal
