@@ -1,3 +1,4 @@
+pub mod Shapes
 pub mod Places
 pub mod Standing
 pub mod Occurrences

@@ -4,7 +4,7 @@ use Rattle.std.specs.List.{All}
 use Rattle.asn_tree.specs.declared.definitions.ToplevelDefinition.{ToplevelDefinition}
 use Rattle.asn_tree.specs.declared.headers.TaggingEnvironment.{TaggingEnvironment}
 use Rattle.asn_tree.specs.declared.types.ASN1Type.{ASN1Type, ASN1Type-F, out-ASN1Type}
-use Rattle.asn_names.specs.Answers.{Refines}
+use Rattle.asn_names.specs.Answers.{Refines, Yes}
 use Rattle.asn_names.specs.Definitions.{Definitions, Module, definitions_of, see, type_of, IsStanding}
 use Rattle.asn_names.specs.Faults.{IsClean}
 use Rattle.asn_names.specs.Given.{IsGiven}
@@ -13,7 +13,10 @@ use Rattle.asn_names.specs.Kept.{given_definitions, retagged}
 use Rattle.asn_names.specs.Layers.{TypeLayer}
 use Rattle.asn_names.specs.Meaning.{Accepts, AcceptsAlike, IsDecided, Rejects, is_plain}
 use Rattle.asn_names.specs.Occurrences.{names_in}
-use Rattle.asn_names.specs.Scopes.{Scope}
+use Rattle.asn_names.specs.Denotes.{Denoted, denotes}
+use Rattle.asn_names.specs.Scopes.{Scope, Place}
+use Rattle.asn_names.specs.Shape.{shape}
+use Rattle.asn_tree.specs.declared.values.ASN1Value.{ASN1Value}
 use Rattle.asn_names.specs.ValueTrees.{ValueTree}
 
 -- More steps never change a yes or a no.
@@ -64,3 +67,15 @@ RetaggingKeepsNames = (environment : TaggingEnvironment) (ty : ASN1Type) → nam
 -- Retagging leaves a type in plain form, or not in it.
 abbrev pub RetaggingKeepsPlainForm : Type 0
 RetaggingKeepsPlainForm = (environment : TaggingEnvironment) (ty : ASN1Type) → is_plain (retagged environment ty) ≡ is_plain ty
+
+-- What a type accepts within a number of steps fits its kind at every depth within as many.
+abbrev pub AcceptedFits : Type 0
+AcceptedFits =
+    (defs : Definitions) (n : ℕ) (scope : Scope) (ty : ASN1Type) (t : ValueTree) →
+    judge defs n (OfType scope ty t) ≡ Yes → shape defs n (record { scope = scope; ty = ty }) t ≡ Yes
+
+-- What a value denotes under a type fits the type's kind at every depth.
+abbrev pub DenotedFits : Type 0
+DenotedFits =
+    (defs : Definitions) (n : ℕ) (scope : Scope) (v : ASN1Value) (p : Place) (t : ValueTree) →
+    denotes defs n scope v p ≡ Denoted t → shape defs n p t ≡ Yes

@@ -8,6 +8,9 @@ pub mod Scopes
 pub mod Layers
 pub mod Judge
 pub mod Meaning
+pub mod Heads
+pub mod Shape
+pub mod Denotes
 pub mod Kept
 pub mod Laws
 pub mod Given

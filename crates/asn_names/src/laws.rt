@@ -2,7 +2,7 @@
 //!
 //! They speak of the definitions in specs/ alone. The layers above stand on them: what they rewrite keeps its meaning.
 
-ghost use Rattle.asn_names.specs.Laws.{EveryTreeDecided, LinkedAcceptsAlike, MoreSteps, OneAnswer, RetaggingKeepsJudgement, RetaggingKeepsNames, RetaggingKeepsPlainForm, SeesGiven};
+ghost use Rattle.asn_names.specs.Laws.{AcceptedFits, DenotedFits, EveryTreeDecided, LinkedAcceptsAlike, MoreSteps, OneAnswer, RetaggingKeepsJudgement, RetaggingKeepsNames, RetaggingKeepsPlainForm, SeesGiven};
 
 /// More steps never change a yes or a no: only an unknown answer may become another.
 pub fn more_steps()
@@ -43,4 +43,14 @@ pub fn retagging_keeps_names()
 /// Retagging leaves a type in plain form, or not in it.
 pub fn retagging_keeps_plain_form()
     ensures { RetaggingKeepsPlainForm }
+{}
+
+/// What a type accepts fits its kind at every depth.
+pub fn accepted_fits()
+    ensures { AcceptedFits }
+{}
+
+/// What a value denotes under a type fits the type's kind at every depth.
+pub fn denoted_fits()
+    ensures { DenotedFits }
 {}

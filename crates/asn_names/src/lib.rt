@@ -17,8 +17,8 @@ mod trees;
 pub use faults::Fault;
 pub use judge::judge_type;
 pub use laws::{
-    every_tree_decided, linked_accepts_alike, more_steps, one_answer, retagging_keeps_judgement,
-    retagging_keeps_names, retagging_keeps_plain_form, sees_given,
+    accepted_fits, denoted_fits, every_tree_decided, linked_accepts_alike, more_steps, one_answer,
+    retagging_keeps_judgement, retagging_keeps_names, retagging_keeps_plain_form, sees_given,
 };
 pub use names::{Names, Place};
 pub use trees::{Answer, Field, Tree};
