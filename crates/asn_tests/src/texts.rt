@@ -1,5 +1,7 @@
 //! What the tests are run on: texts, words, and the trees that the house makes of a text.
 
+ghost use Rattle.std.specs.Prelude.{◌≡◌, ◌++◌, IfOk, codes, string_bytes};
+
 use asn_copy::copy_toplevel_definition;
 use asn_memory::{List, Mem};
 use asn_modules::{SpecError, asn_spec};
@@ -23,7 +25,9 @@ pub fn words_of(alloc: Global, words: &[&str]) -> Result<Vec<String>, AllocError
 }
 
 /// The text of a module M with this body.
-pub fn module(alloc: Global, body: &str) -> Result<String, AllocError> {
+pub fn module(alloc: Global, body: &str) -> Result<String, AllocError>
+    ensures { IfOk result (λ text. string_bytes text ≡ codes "M DEFINITIONS ::= BEGIN " ++ body.now ++ codes " END") }
+{
     let mut text = String::from_str(alloc, "M DEFINITIONS ::= BEGIN ")?;
     text.push_str(body)?;
     text.push_str(" END")?;

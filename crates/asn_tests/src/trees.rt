@@ -1,11 +1,9 @@
 //! The trees that a run hands out.
 
+use crate::parts::range_in;
 use crate::texts::{WHOLE, words_of};
 use asn_tool::{Ended, SureSink, SureSource, run};
-use asn_tree::{
-    ASN1Type, ASN1Value, Constraint, ElementOrSetOperation, Integer, SubtypeElement,
-    TaggingEnvironment, ToplevelDefinition,
-};
+use asn_tree::{TaggingEnvironment, ToplevelDefinition};
 use std::alloc::Global;
 use std::test::Fail;
 
@@ -16,37 +14,10 @@ fn run_whole(alloc: Global) -> Result<Ended, Fail> {
     Ok(run(alloc, words.as_slice(), &mut source, &mut sink))
 }
 
-// The ends of a range of numbers, both closed, without an extension marker.
-fn ends_of(element: &SubtypeElement) -> Option<(i128, i128)> {
-    match element {
-        SubtypeElement::ValueRange {
-            min: Some(ASN1Value::Integer(min)),
-            max: Some(ASN1Value::Integer(max)),
-            min_open: false,
-            max_open: false,
-            extensible: false,
-        } => Some((*min, *max)),
-        _ => None,
-    }
-}
-
-// The range that is an INTEGER's one constraint.
-fn range_of(integer: &Integer) -> Option<(i128, i128)> {
-    match integer.constraints.as_slice() {
-        [Constraint::SubtypeConstraint(set)] => match &set.set {
-            ElementOrSetOperation::Element(element) => ends_of(element),
-        },
-        _ => None,
-    }
-}
-
 // The range of a definition of an INTEGER.
-fn range_in(definition: &ToplevelDefinition) -> Option<(i128, i128)> {
+fn range_of_definition(definition: &ToplevelDefinition) -> Option<(i128, i128)> {
     match definition {
-        ToplevelDefinition::TypeDef(definition) => match &definition.ty {
-            ASN1Type::Integer(integer) => range_of(integer),
-            _ => None,
-        },
+        ToplevelDefinition::TypeDef(definition) => range_in(&definition.ty),
     }
 }
 
@@ -63,7 +34,7 @@ fn a_reading(rt: HostRuntime) -> Result<(), Fail> {
     let definition = definitions.get(0).ok_or("a definition")?;
     assert_eq!(rt; definition.name().as_str(), "My-test-integer");
     assert_eq!(rt; definition.get_index(), None);
-    assert_eq!(rt; range_in(definition), Some((1, 128)));
+    assert_eq!(rt; range_of_definition(definition), Some((1, 128)));
     Ok(())
 }
 
@@ -77,6 +48,6 @@ fn a_linked_answer(rt: HostRuntime) -> Result<(), Fail> {
     let definition = linked.definitions.get(0).ok_or("a definition")?;
     assert_eq!(rt; definition.name().as_str(), "My-test-integer");
     assert_eq!(rt; definition.get_index(), Some((0, 0)));
-    assert_eq!(rt; range_in(definition), Some((1, 128)));
+    assert_eq!(rt; range_of_definition(definition), Some((1, 128)));
     Ok(())
 }
