@@ -1,8 +1,8 @@
 //! Tests of the whole house, from a text to its listing, and of each room's calls on what the others make.
 //!
 //! The room above all others, which nothing stands on. It holds what no clause says: rows of texts with the listings
-//! that the notation gives them, and each call once with ample memory. One module for each topic; `texts` and `parts`
-//! have what they share.
+//! that the notation gives them, and each call once with ample memory. One module for each topic; `texts`, `readings`
+//! and `parts` have what they share.
 #![tactic(auto)]
 
 #[cfg(test)]
@@ -20,12 +20,13 @@ mod names;
 #[cfg(test)]
 mod parts;
 #[cfg(test)]
+mod readings;
+#[cfg(test)]
 mod rows;
 #[cfg(test)]
 mod rules;
 #[cfg(test)]
 mod text;
-#[cfg(test)]
-mod texts;
+pub mod texts;
 #[cfg(test)]
 mod trees;

@@ -1,6 +1,6 @@
 //! Which trees the types of a text accept, once the text is read and linked.
 
-use crate::texts::reading_of;
+use crate::readings::reading_of;
 use asn_check::link_reading;
 use asn_memory::{List, Mem, Text};
 use asn_names::{Answer, Field, Names, Tree, judge_type};

@@ -1,6 +1,6 @@
 //! Names over the definitions of two modules.
 
-use crate::texts::{definitions_of, reading_of};
+use crate::readings::{definitions_of, reading_of};
 use asn_memory::List;
 use asn_names::{Fault, Names};
 use asn_tree::{ASN1Type, ToplevelDefinition};
