@@ -1,7 +1,10 @@
 pub mod Theory
 pub mod Ranks
 pub mod Total
+pub mod Checked
 pub mod Trees
 pub mod Nodes
 pub mod Bare
 pub mod Numbers
+pub mod Walks
+pub mod Modules

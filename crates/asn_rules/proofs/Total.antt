@@ -70,7 +70,7 @@ module _ (rules : List Expression) (text : List ℕ) (t : List Bool) (ranks : Li
   row : (r : ℕ) → Right t ranks (rule_of rules r) (get_or t r false) (get_or ranks r 0)
   row = right t ranks rules t ranks fine
 
-  abbrev Moves : ℕ → Ending → Type 0
+  abbrev pub Moves : ℕ → Ending → Type 0
   Moves i (ends j) = i < j
   Moves i fails = Unit {0}
 
@@ -97,7 +97,7 @@ module _ (rules : List Expression) (text : List ℕ) (t : List Bool) (ranks : Li
   moves_second fails i j le lt = tt
 
   -- An expression whose ends each take a byte takes one.
-  moves : {e : Expression} {i k : ℕ} {o : Ending} → Runs rules text e i o k → i ≤ length text → takes_byte t e ≡ true → Moves i o
+  pub moves : {e : Expression} {i k : ℕ} {o : Ending} → Runs rules text e i o k → i ≤ length text → takes_byte t e ≡ true → Moves i o
   moves (sees {s} {i}) le m = see_moves s i m
   moves (seq_ends {a = a} {b = b} {i = i} {j = j} {o = o} p q) le m =
       let l = runs_lies rules text p le in

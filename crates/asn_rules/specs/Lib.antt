@@ -10,3 +10,5 @@ pub mod Derives
 pub mod Grown
 pub mod Nodes
 pub mod Valid
+pub mod Due
+pub mod Attempts

@@ -6,6 +6,7 @@
 #![tactic(auto)]
 
 mod derive;
+mod due;
 mod expression;
 mod first;
 mod grammar;
@@ -16,6 +17,7 @@ mod node;
 mod rules;
 mod run;
 
+pub use due::{DuePlace, ModulePart, due_place, one_due_place};
 pub use expression::{ByteClass, Expression, Guard, Sight};
 pub use grammar::{Grammar, rule_expression};
 pub use guards::{ASN1_KEYWORDS, is_keyword, whole_number};
