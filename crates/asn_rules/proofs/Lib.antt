@@ -8,3 +8,4 @@ pub mod Bare
 pub mod Numbers
 pub mod Walks
 pub mod Modules
+pub mod Places

@@ -2,7 +2,9 @@
 use Rattle.std.proofs.Common.{◌≡◌, ℕ, ◌+◌, ◌<◌, ◌≤◌, max, List, [], ◌∷◌, true, length, refl, sym, ap, ◌∙◌, subst, arith, ◌⊎◌, inl, inr}
 use Rattle.std.specs.Prelude.{codes}
 use Rattle.asn_rules.specs.Expression.{Expression, see, seq, choice, many, never, guarded, rule, skip, rule_of}
-use Rattle.asn_rules.specs.First.{first, literal, keyword, letter, any, some}
+use Rattle.asn_rules.specs.First.{first, further}
+use Rattle.asn_rules.specs.Forms.{literal, keyword, letter, any, some}
+use Rattle.asn_rules.specs.LexicalRules.{lexical_rules_before}
 use Rattle.asn_rules.specs.Runs.{Ending, ends, fails, Runs, sees, seq_ends, seq_fails, choice_first, choice_second, many_turn, many_idle, many_fails, never_ends, never_fails, guard_judges, guard_fails, calls, skips}
 use Rattle.asn_rules.specs.Valid.{Fails}
 use Rattle.asn_rules.specs.Due.{Comes, Stop, all_stand, lacks, Through, at_end, missing, standing, before, itself, parts, IsDue, due_here, due_later}
@@ -56,7 +58,7 @@ module _ (text : List ℕ) where
 
     -- rule 1 repeats, so that it ends
     rule_1 : {i h : ℕ} {o : Ending} → R (rule_of first 1) i o h → (x : ℕ) × (o ≡ ends x)
-    unfolding first
+    unfolding first further lexical_rules_before
     rule_1 {o = ends x} p = (x, refl)
     rule_1 {o = fails} p = absurd (many_ends p)
 
@@ -96,31 +98,31 @@ module _ (text : List ℕ) where
         by_skip l.2 (omega (arith, l.3, c.2))
 
     row_8 : rule_of first 8 ≡ seq (rule 1) (seq letter (rule 7))
-    unfolding first
+    unfolding first further lexical_rules_before
     row_8 = refl
 
     row_22 : rule_of first 22 ≡ seq (skip 1) (literal (codes "::="))
-    unfolding first
+    unfolding first further lexical_rules_before
     row_22 = refl
 
     row_179 : rule_of first 179 ≡ keyword (codes "END")
-    unfolding first
+    unfolding first further lexical_rules_before
     row_179 = refl
 
     row_167 : rule_of first 167 ≡ choice (rule 166) (literal [])
-    unfolding first
+    unfolding first further lexical_rules_before
     row_167 = refl
 
     row_176 : rule_of first 176 ≡ seq (rule 8) (seq (keyword (codes "DEFINITIONS")) (seq (rule 167) (seq (rule 22) (keyword (codes "BEGIN")))))
-    unfolding first
+    unfolding first further lexical_rules_before
     row_176 = refl
 
     row_189 : rule_of first 189 ≡ seq (rule 176) (seq (many (rule 188)) (rule 179))
-    unfolding first
+    unfolding first further lexical_rules_before
     row_189 = refl
 
     row_190 : rule_of first 190 ≡ seq (some (rule 189)) (seq (rule 1) (never any))
-    unfolding first
+    unfolding first further lexical_rules_before
     row_190 = refl
 
     -- each part begins with blanks and comments
@@ -142,24 +144,24 @@ module _ (text : List ℕ) where
 
     -- one part, and what follows it
     part_goes : (p : ModulePart) (ps : List ModulePart) (rest : Expression) (i j h : ℕ) (o o' : Ending) → C (before p) i (ends j) → R (seq (itself p) rest) j o h → h ≤ d → (o ≡ fails → o' ≡ fails) → ((k m : ℕ) → C (itself p) j (ends k) → R rest k o m → m ≤ d → Goes ps k o') → Goes (p ∷ ps) i o'
-    part_goes p ps rest i j h o o' b r le lost further = go (of_seq r)
+    part_goes p ps rest i j h o o' b r le lost after = go (of_seq r)
       where
         go : ((o ≡ fails) × R (itself p) j fails h) ⊎ ((k : ℕ) × (m : ℕ) × (n : ℕ) × R (itself p) j (ends k) m × R rest k o n × (h ≡ max m n)) → Goes (p ∷ ps) i o'
         go (inl x) = (lacks p j, missing b (h, x.1, le), sym (lost x.0))
         go (inr x) =
             let it : C (itself p) j (ends x.0) = (x.1, x.3, omega (arith, x.5)) in
-            let g = further x.0 x.2 it x.4 (omega (arith, x.5)) in
+            let g = after x.0 x.2 it x.4 (omega (arith, x.5)) in
             (g.0, standing b it g.1, g.2)
 
     -- the last part
     last_goes : (p : ModulePart) (ps : List ModulePart) (i j h : ℕ) (o o' : Ending) → C (before p) i (ends j) → R (itself p) j o h → h ≤ d → (o ≡ fails → o' ≡ fails) → ((k : ℕ) → o ≡ ends k → Goes ps k o') → Goes (p ∷ ps) i o'
-    last_goes p ps i j h fails o' b r le lost further = (lacks p j, missing b (h, r, le), sym (lost refl))
-    last_goes p ps i j h (ends k) o' b r le lost further =
-        let g = further k refl in
+    last_goes p ps i j h fails o' b r le lost after = (lacks p j, missing b (h, r, le), sym (lost refl))
+    last_goes p ps i j h (ends k) o' b r le lost after =
+        let g = after k refl in
         (g.0, standing b (h, r, le) g.1, g.2)
 
     header_goes : (i h : ℕ) (o o' : Ending) → R (rule 176) i o h → h ≤ d → (o ≡ fails → o' ≡ fails) → ((k : ℕ) → o ≡ ends k → Goes (Closing ∷ []) k o') → Goes parts i o'
-    header_goes i h o o' r le lost further =
+    header_goes i h o o' r le lost after =
         let c = of_call r in
         part_goes Name _ _ i i c.0 o o' (nothing i) (subst (λ e. R e i o c.0) row_176 c.1) (omega (arith, c.2)) lost (λ k m it r le'.
         part_goes Definitions _ _ k k m o o' (nothing k) r le' lost (λ k' m' it' r' le''.
@@ -288,8 +290,8 @@ module _ (text : List ℕ) where
             on (inl y) = absurd cc
             on (inr y) =
                 let w = whole 0 y.0 y.1 y.3 (omega (arith, y.5)) in
-                let further = behind (runs_lies first text y.3 (omega arith)).1 y.4 (omega (arith, y.5)) n tail le' in
-                (further.1.0, further.1.1, further.1.2, due_later w further.0.1 further.0.2 further.1.3)
+                let after = behind (runs_lies first text y.3 (omega arith)).1 y.4 (omega (arith, y.5)) n tail le' in
+                (after.1.0, after.1.1, after.1.2, due_later w after.0.1 after.0.2 after.1.3)
 
         go : (m : ℕ) → m ≤ d → ((fails ≡ fails) × R (some (rule 189)) 0 fails m) ⊎ ((x : ℕ) × (a : ℕ) × (b : ℕ) × R (some (rule 189)) 0 (ends x) a × R (seq (rule 1) (never any)) x fails b × (m ≡ max a b)) → Due 0
         go m le (inl y) = several m le y.1

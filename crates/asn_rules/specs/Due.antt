@@ -4,7 +4,7 @@ use Rattle.asn_rules.specs.declared.due.ModulePart.{ModulePart}
 use Rattle.asn_rules.specs.declared.due.ModulePart.TheVariants.{Name, Definitions, Assignment, Begin, Closing}
 use Rattle.asn_rules.specs.declared.names.TheConstants.{ASSIGNMENT, DEFINITION, END, ENVIRONMENTS, IDENTIFIER, SP}
 use Rattle.asn_rules.specs.Expression.{Expression, many, rule, skip}
-use Rattle.asn_rules.specs.First.{keyword, literal}
+use Rattle.asn_rules.specs.Forms.{keyword, literal}
 use Rattle.asn_rules.specs.Runs.{Ending, ends, fails, Runs}
 
 -- the parts that each module has, in order (X.680 13.1)

@@ -2,7 +2,10 @@ pub mod Expression
 pub mod Lexical
 pub mod Guards
 pub mod Sizes
+pub mod Forms
+pub mod LexicalRules
 pub mod First
+pub mod Whole
 pub mod Grammar
 pub mod Runs
 pub mod Answer
@@ -12,3 +15,4 @@ pub mod Nodes
 pub mod Valid
 pub mod Due
 pub mod Attempts
+pub mod RuleNames
