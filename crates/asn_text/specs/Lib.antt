@@ -1,4 +1,5 @@
 pub mod Position
 pub mod Part
 pub mod Input
+pub mod Report
 pub mod Equality

@@ -5,8 +5,11 @@
 #![tactic(auto)]
 
 mod input;
+mod place;
+mod report;
 #[cfg(test)]
 mod tests;
 
 pub use asn_memory::{Box, List, Mem, OutOfMemory, Text};
 pub use input::Input;
+pub use report::{LexerError, LexerErrorType, ReportData};
