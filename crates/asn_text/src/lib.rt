@@ -4,12 +4,22 @@
 //! crates above speak of places in a text through it; it knows nothing of trees.
 #![tactic(auto)]
 
+mod at_least_one;
+mod errors;
+mod fault;
 mod input;
+mod markers;
 mod place;
 mod report;
 #[cfg(test)]
 mod tests;
 
 pub use asn_memory::{Box, List, Mem, OutOfMemory, Text};
+pub use errors::{
+    Context, ErrorBranches, ErrorKind, ErrorLeaf, ErrorLink, ErrorLinks, ErrorTree, MiscError,
+    NomKind,
+};
+pub use fault::{ParseFault, ParserResult};
 pub use input::Input;
+pub use markers::{ExtensionMarker, OptionalMarker, RangeSeperator};
 pub use report::{LexerError, LexerErrorType, ReportData};
