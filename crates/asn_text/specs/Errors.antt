@@ -1,5 +1,5 @@
 -- Trees of failures: what the calls make of them, and what they read from them.
-use Rattle.std.specs.Prelude.{◌≡◌, ℕ, ◌-◌, Bool, true, false, nat_eq, List, [], ◌∷◌, ◌++◌, length, codes, slice_get, Option, Some, None, option_map}
+use Rattle.std.specs.Prelude.{◌≡◌, ℕ, ◌-◌, Bool, true, false, nat_eq, List, [], ◌∷◌, ◌++◌, length, codes, slice_get, Option, Some, option_map}
 use Rattle.std.specs.Option.{option_flatten}
 use Rattle.asn_text.specs.Position.{line_at, column_at}
 use Rattle.asn_text.specs.Part.{Part, shown}

@@ -5,3 +5,6 @@ pub mod Input
 pub mod Report
 pub mod Equality
 pub mod Errors
+pub mod Fault
+pub mod Until
+pub mod Bits

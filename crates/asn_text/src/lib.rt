@@ -5,6 +5,8 @@
 #![tactic(auto)]
 
 mod at_least_one;
+mod bits;
+pub mod constants;
 mod errors;
 mod fault;
 mod input;
@@ -13,8 +15,11 @@ mod place;
 mod report;
 #[cfg(test)]
 mod tests;
+mod until;
 
 pub use asn_memory::{Box, List, Mem, OutOfMemory, Text};
+pub use asn_rules::ASN1_KEYWORDS;
+pub use bits::hex_to_bools;
 pub use errors::{
     Context, ErrorBranches, ErrorKind, ErrorLeaf, ErrorLink, ErrorLinks, ErrorTree, MiscError,
     NomKind,
@@ -23,3 +28,4 @@ pub use fault::{ParseFault, ParserResult};
 pub use input::Input;
 pub use markers::{ExtensionMarker, OptionalMarker, RangeSeperator};
 pub use report::{LexerError, LexerErrorType, ReportData};
+pub use until::{take_until_and_not, take_until_or, take_until_unbalanced};

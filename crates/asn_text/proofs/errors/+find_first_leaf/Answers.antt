@@ -1,4 +1,4 @@
-use Rattle.std.proofs.Common.{◌≡◌, Some, Option, sym, ◌∙◌, ap}
+use Rattle.std.proofs.Common.{Option, sym, ◌∙◌, ap}
 use Rattle.asn_text.proofs.Failures.{at_leaf, at_branch, at_fork, first_is, first_made}
 use Rattle.asn_text.specs.Errors.{first_leaf, first_leaf_step, first_of}
 use Rattle.asn_text.specs.declared.errors.ErrorLeaf.{ErrorLeaf}

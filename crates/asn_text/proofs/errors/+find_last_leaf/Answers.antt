@@ -1,4 +1,4 @@
-use Rattle.std.proofs.Common.{◌≡◌, Some, Option, sym, ◌∙◌, ap}
+use Rattle.std.proofs.Common.{Option, sym, ◌∙◌, ap}
 use Rattle.asn_text.proofs.Failures.{at_leaf, at_branch, at_fork, last_is, last_made}
 use Rattle.asn_text.specs.Errors.{last_leaf, last_leaf_step, last_of}
 use Rattle.asn_text.specs.declared.errors.ErrorLeaf.{ErrorLeaf}

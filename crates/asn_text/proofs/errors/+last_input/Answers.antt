@@ -1,4 +1,4 @@
-use Rattle.std.proofs.Common.{◌≡◌, Some, Option, option_map, sym, ◌∙◌, ap}
+use Rattle.std.proofs.Common.{Some, Option, option_map, sym, ◌∙◌, ap}
 use Rattle.asn_text.proofs.Failures.{at_leaf, at_branch, at_fork, last_is, last_made}
 use Rattle.asn_text.specs.Errors.{input_of, input_step, last_of}
 use Rattle.asn_text.specs.declared.input.Input.{Input}
