@@ -1,95 +1,110 @@
--- Bytes outside blanks, as the code finds them.
-use Rattle.std.proofs.Common.{◌≡◌, ℕ, suc, ◌+◌, ◌<◌, ◌≤◌, List, [], ◌∷◌, Bool, true, false, not, cond, Some, None, length, take, drop, refl, sym, ap, ◌∙◌, subst, arith}
-use Rattle.std.specs.Prelude.{nat_eq, nat_lt, ◌&&◌, if◌then◌else◌, position}
-use Rattle.std.specs.List.{position_or_len}
-use Rattle.std.proofs.lemmas.Bool.Decides.{Decides-ltb, Decides-eqb}
-use Rattle.std.proofs.lemmas.List.{take_all, drop_all}
-use Rattle.asn_rules.specs.Lexical.{is_blank}
-use Rattle.asn_rules.specs.Guards.{bare, is_empty, number, at_most, before_dot, behind_dot, is_range}
+-- Bytes outside blanks and comments, as the code finds them.
+use Rattle.std.proofs.Common.{◌≡◌, ℕ, zero, suc, ◌+◌, ◌<◌, List, length, get_or, arith, [], ◌∷◌, Bool, true, false, not, cond, drop, refl, sym, ap, ◌∙◌, codes}
+use Rattle.std.specs.Prelude.{nat_eq, ◌&&◌, ◌||◌, if◌then◌else◌}
+use Rattle.asn_rules.specs.Lexical.{in_class, first_in, is_blank}
+use Rattle.asn_rules.specs.declared.expression.ByteClass.TheVariants.{Blank, LineFeed}
+use Rattle.asn_rules.specs.declared.expression.ByteClass.{ByteClass}
+use Rattle.asn_rules.specs.Guards.{Place, within, in_line, half, begins, onward, is_outside, bare_from, bare}
 use Rattle.asn_rules.specs.Sizes.{starts_bare}
 
--- a dot is no blank
-dot_is_bare : (x : ℕ) → nat_eq x 46 ≡ true → is_blank x ≡ false
-dot_is_bare x e =
-    let same : x ≡ 46 = (Decides-eqb x 46).0 e in
-    subst (λ n. is_blank n ≡ false) (sym same) refl
-
-pub before_bare : (xs : List ℕ) → before_dot (bare xs) ≡ bare (before_dot xs)
-before_bare [] = refl
-before_bare (x ∷ xs) = go (is_blank x) (nat_eq x 46) refl refl (dot_is_bare x) (before_bare xs)
+-- A mark of two bytes leads to a place.
+marked : (p q : Place) (bs : List ℕ) (x y : ℕ) → begins (x ∷ y ∷ []) bs ≡ true → onward p bs ≡ half q → is_outside p bs ≡ false → bare_from p bs ≡ bare_from q (drop 2 bs)
+unfolding bare_from
+marked p q [] x y e on off = absurd cc
+marked p q (b ∷ []) x y e on off = go (nat_eq x b) (nat_eq b x) e
   where
-    go : (e d : Bool) → is_blank x ≡ e → nat_eq x 46 ≡ d → (nat_eq x 46 ≡ true → is_blank x ≡ false) → before_dot (bare xs) ≡ bare (before_dot xs) → before_dot (cond (not (is_blank x)) (x ∷ bare xs) (bare xs)) ≡ bare (if nat_eq x 46 then [] else x ∷ before_dot xs)
-    go true true eb ed h again = let off = h ed in absurd cc
-    go true false eb ed h again =
-        ap (λ b. before_dot (cond (not b) (x ∷ bare xs) (bare xs))) eb ∙ again
-        ∙ sym (ap (λ b. bare (if b then [] else x ∷ before_dot xs)) ed ∙ ap (λ b. cond (not b) (x ∷ bare (before_dot xs)) (bare (before_dot xs))) eb)
-    go false true eb ed h again =
-        ap (λ b. before_dot (cond (not b) (x ∷ bare xs) (bare xs))) eb ∙ ap (λ b. if b then [] else x ∷ before_dot (bare xs)) ed
-        ∙ sym (ap (λ b. bare (if b then [] else x ∷ before_dot xs)) ed)
-    go false false eb ed h again =
-        ap (λ b. before_dot (cond (not b) (x ∷ bare xs) (bare xs))) eb ∙ ap (λ b. if b then [] else x ∷ before_dot (bare xs)) ed ∙ ap (λ ys. x ∷ ys) again
-        ∙ sym (ap (λ b. bare (if b then [] else x ∷ before_dot xs)) ed ∙ ap (λ b. cond (not b) (x ∷ bare (before_dot xs)) (bare (before_dot xs))) eb)
+    go : (s t : Bool) → (s && false) ≡ true → bare_from p (b ∷ []) ≡ []
+    go true t e = absurd cc
+    go false t e = absurd cc
+marked p q (b ∷ c ∷ bs) x y e on off =
+    ap (λ t. cond t (b ∷ bare_from (onward p (b ∷ c ∷ bs)) (c ∷ bs)) (bare_from (onward p (b ∷ c ∷ bs)) (c ∷ bs))) off
+    ∙ ap (λ r. bare_from r (c ∷ bs)) on
 
-pub behind_bare : (xs : List ℕ) → behind_dot (bare xs) ≡ bare (behind_dot xs)
-behind_bare [] = refl
-behind_bare (x ∷ xs) = go (is_blank x) (nat_eq x 46) refl refl (dot_is_bare x) (behind_bare xs)
+-- what leads where, by what stands in front
+pub line_opens : (bs : List ℕ) → begins (codes "--") bs ≡ true → bare_from (within 0) bs ≡ bare_from in_line (drop 2 bs)
+line_opens bs e =
+    marked (within 0) in_line bs 45 45 e
+    (ap (λ t. if t then half in_line else if begins (codes "/*") bs then half (within 1) else within 0) e)
+    (ap (λ t. not (t || (begins (codes "/*") bs || first_in Blank bs))) e)
+
+pub comment_opens : (bs : List ℕ) → begins (codes "--") bs ≡ false → begins (codes "/*") bs ≡ true → bare_from (within 0) bs ≡ bare_from (within 1) (drop 2 bs)
+comment_opens bs n e =
+    marked (within 0) (within 1) bs 47 42 e
+    (ap (λ t. if t then half in_line else if begins (codes "/*") bs then half (within 1) else within 0) n ∙ ap (λ t. if t then half (within 1) else within 0) e)
+    (ap (λ t. not (t || (begins (codes "/*") bs || first_in Blank bs))) n ∙ ap (λ t. not (t || first_in Blank bs)) e)
+
+pub line_closes : (bs : List ℕ) → begins (codes "--") bs ≡ true → bare_from in_line bs ≡ bare_from (within 0) (drop 2 bs)
+line_closes bs e = marked in_line (within 0) bs 45 45 e (ap (λ t. if t then half (within 0) else if first_in LineFeed bs then within 0 else in_line) e) refl
+
+pub block_opens : (n : ℕ) (bs : List ℕ) → begins (codes "/*") bs ≡ true → bare_from (within (suc n)) bs ≡ bare_from (within (suc (suc n))) (drop 2 bs)
+block_opens n bs e = marked (within (suc n)) (within (suc (suc n))) bs 47 42 e (ap (λ t. if t then half (within (suc (suc n))) else if begins (codes "*/") bs then half (within n) else within (suc n)) e) refl
+
+pub block_closes : (n : ℕ) (bs : List ℕ) → begins (codes "/*") bs ≡ false → begins (codes "*/") bs ≡ true → bare_from (within (suc n)) bs ≡ bare_from (within n) (drop 2 bs)
+block_closes n bs o e =
+    marked (within (suc n)) (within n) bs 42 47 e
+    (ap (λ t. if t then half (within (suc (suc n))) else if begins (codes "*/") bs then half (within n) else within (suc n)) o ∙ ap (λ t. if t then half (within n) else within (suc n)) e)
+    refl
+
+-- one byte leads to a place
+passed : (p q : Place) (bs : List ℕ) → onward p bs ≡ q → is_outside p bs ≡ false → bare_from p bs ≡ bare_from q (drop 1 bs)
+unfolding bare_from
+passed p q [] on off = refl
+passed p q (b ∷ bs) on off = ap (λ t. cond t (b ∷ bare_from (onward p (b ∷ bs)) bs) (bare_from (onward p (b ∷ bs)) bs)) off ∙ ap (λ r. bare_from r bs) on
+
+first_is : (c : ByteClass) (bs : List ℕ) (b : ℕ) → 0 < length bs → get_or bs 0 0 ≡ b → first_in c bs ≡ in_class c b
+first_is c [] b lt e = absurd (omega arith)
+first_is c (x ∷ bs) b lt e = ap (in_class c) e
+
+pub line_breaks : (bs : List ℕ) (b : ℕ) → begins (codes "--") bs ≡ false → 0 < length bs → get_or bs 0 0 ≡ b → nat_eq b 10 ≡ true → bare_from in_line bs ≡ bare_from (within 0) (drop 1 bs)
+line_breaks bs b n lt s e =
+    passed in_line (within 0) bs
+    (ap (λ t. if t then half (within 0) else if first_in LineFeed bs then within 0 else in_line) n ∙ ap (λ t. if t then within 0 else in_line) (first_is LineFeed bs b lt s ∙ e))
+    refl
+
+pub line_goes_on : (bs : List ℕ) (b : ℕ) → begins (codes "--") bs ≡ false → 0 < length bs → get_or bs 0 0 ≡ b → nat_eq b 10 ≡ false → bare_from in_line bs ≡ bare_from in_line (drop 1 bs)
+line_goes_on bs b n lt s e =
+    passed in_line in_line bs
+    (ap (λ t. if t then half (within 0) else if first_in LineFeed bs then within 0 else in_line) n ∙ ap (λ t. if t then within 0 else in_line) (first_is LineFeed bs b lt s ∙ e))
+    refl
+
+pub block_goes_on : (n : ℕ) (bs : List ℕ) → begins (codes "/*") bs ≡ false → begins (codes "*/") bs ≡ false → bare_from (within (suc n)) bs ≡ bare_from (within (suc n)) (drop 1 bs)
+block_goes_on n bs o e =
+    passed (within (suc n)) (within (suc n)) bs
+    (ap (λ t. if t then half (within (suc (suc n))) else if begins (codes "*/") bs then half (within n) else within (suc n)) o ∙ ap (λ t. if t then half (within n) else within (suc n)) e)
+    refl
+
+-- neither kind of comment begins here
+stays : (bs : List ℕ) → begins (codes "--") bs ≡ false → begins (codes "/*") bs ≡ false → onward (within 0) bs ≡ within 0
+stays bs n o = ap (λ t. if t then half in_line else if begins (codes "/*") bs then half (within 1) else within 0) n ∙ ap (λ t. if t then half (within 1) else within 0) o
+
+blankness : (bs : List ℕ) → begins (codes "--") bs ≡ false → begins (codes "/*") bs ≡ false → is_outside (within 0) bs ≡ not (first_in Blank bs)
+blankness bs n o = ap (λ t. not (t || (begins (codes "/*") bs || first_in Blank bs))) n ∙ ap (λ t. not (t || first_in Blank bs)) o
+
+pub blank_goes_on : (bs : List ℕ) (b : ℕ) → begins (codes "--") bs ≡ false → begins (codes "/*") bs ≡ false → 0 < length bs → get_or bs 0 0 ≡ b → is_blank b ≡ true → bare_from (within 0) bs ≡ bare_from (within 0) (drop 1 bs)
+blank_goes_on bs b n o lt s e = passed (within 0) (within 0) bs (stays bs n o) (blankness bs n o ∙ ap not (first_is Blank bs b lt s ∙ e))
+
+pub outside_here : (bs : List ℕ) (b : ℕ) → begins (codes "--") bs ≡ false → begins (codes "/*") bs ≡ false → get_or bs 0 0 ≡ b → is_blank b ≡ false → starts_bare bs ≡ true
+outside_here [] b n o s e = refl
+outside_here (x ∷ bs) b n o s e = blankness (x ∷ bs) n o ∙ ap not (ap is_blank s ∙ e)
+
+no_mark : (b : ℕ) (bs : List ℕ) → starts_bare (b ∷ bs) ≡ true → (begins (codes "--") (b ∷ bs) ≡ false) × (begins (codes "/*") (b ∷ bs) ≡ false)
+no_mark b bs = go (begins (codes "--") (b ∷ bs)) (begins (codes "/*") (b ∷ bs)) (is_blank b)
   where
-    go : (e d : Bool) → is_blank x ≡ e → nat_eq x 46 ≡ d → (nat_eq x 46 ≡ true → is_blank x ≡ false) → behind_dot (bare xs) ≡ bare (behind_dot xs) → behind_dot (cond (not (is_blank x)) (x ∷ bare xs) (bare xs)) ≡ bare (if nat_eq x 46 then xs else behind_dot xs)
-    go true true eb ed h again = let off = h ed in absurd cc
-    go true false eb ed h again =
-        ap (λ b. behind_dot (cond (not b) (x ∷ bare xs) (bare xs))) eb ∙ again ∙ sym (ap (λ b. bare (if b then xs else behind_dot xs)) ed)
-    go false true eb ed h again =
-        ap (λ b. behind_dot (cond (not b) (x ∷ bare xs) (bare xs))) eb ∙ ap (λ b. if b then bare xs else behind_dot (bare xs)) ed
-        ∙ sym (ap (λ b. bare (if b then xs else behind_dot xs)) ed)
-    go false false eb ed h again =
-        ap (λ b. behind_dot (cond (not b) (x ∷ bare xs) (bare xs))) eb ∙ ap (λ b. if b then bare xs else behind_dot (bare xs)) ed ∙ again
-        ∙ sym (ap (λ b. bare (if b then xs else behind_dot xs)) ed)
+    go : (x y z : Bool) → not (x || (y || z)) ≡ true → (x ≡ false) × (y ≡ false)
+    go true y z e = absurd cc
+    go false true z e = absurd cc
+    go false false z e = (refl, refl)
 
--- A range, where its parts are found before blanks are left out.
-pub range_is : (xs : List ℕ) → is_range (bare xs) ≡ (at_most (number (bare (before_dot xs))) (number (bare (behind_dot (behind_dot xs)))) && is_empty (bare (before_dot (behind_dot xs))))
-range_is xs =
-    let behind = behind_bare xs in
-    ap (λ a. at_most (number a) (number (behind_dot (behind_dot (bare xs)))) && is_empty (before_dot (behind_dot (bare xs)))) (before_bare xs)
-    ∙ ap (λ r. at_most (number (bare (before_dot xs))) (number (behind_dot r)) && is_empty (before_dot r)) behind
-    ∙ ap (λ b. at_most (number (bare (before_dot xs))) (number b) && is_empty (before_dot (bare (behind_dot xs)))) (behind_bare (behind_dot xs))
-    ∙ ap (λ b. at_most (number (bare (before_dot xs))) (number (bare (behind_dot (behind_dot xs)))) && is_empty b) (before_bare (behind_dot xs))
+pub bare_byte : (bs : List ℕ) (b : ℕ) → starts_bare bs ≡ true → 0 < length bs → get_or bs 0 0 ≡ b → bare_from (within 0) bs ≡ b ∷ bare_from (within 0) (drop 1 bs)
+unfolding bare_from
+bare_byte [] b e lt s = absurd (omega arith)
+bare_byte (x ∷ bs) b e lt s =
+    let both = no_mark x bs e in
+    ap (λ t. cond t (x ∷ bare_from (onward (within 0) (x ∷ bs)) bs) (bare_from (onward (within 0) (x ∷ bs)) bs)) e
+    ∙ ap (λ r. x ∷ bare_from r bs) (stays (x ∷ bs) both.0 both.1)
+    ∙ ap (λ n. n ∷ bare_from (within 0) bs) s
 
--- what begins with no blank is empty where nothing stands in it but blanks
-pub empty_is : (xs : List ℕ) → starts_bare xs ≡ true → is_empty (bare xs) ≡ is_empty xs
-empty_is [] e = refl
-empty_is (x ∷ xs) e = ap (λ b. is_empty (cond b (x ∷ bare xs) (bare xs))) e
-
--- The first dot parts the bytes.
-abbrev Parts : List ℕ → ℕ → Type 0
-Parts xs n = (take n xs ≡ before_dot xs) × (drop (n + 1) xs ≡ behind_dot xs)
-
-shift_take : (n x : ℕ) (xs : List ℕ) → take (1 + n) (x ∷ xs) ≡ x ∷ take n xs
-shift_take n x xs = let one : 1 + n ≡ suc n = omega arith in ap (λ k. take k (x ∷ xs)) one
-
-shift_drop : (n x : ℕ) (xs : List ℕ) → drop (1 + n + 1) (x ∷ xs) ≡ drop (n + 1) xs
-shift_drop n x xs = let one : 1 + n + 1 ≡ suc (n + 1) = omega arith in ap (λ k. drop k (x ∷ xs)) one
-
-parts : (xs : List ℕ) → Parts xs (position_or_len (λ b. nat_eq b 46) xs)
-parts [] = (refl, refl)
-parts (x ∷ xs) = go (nat_eq x 46) refl (parts xs)
-  where
-    go : (d : Bool) → nat_eq x 46 ≡ d → Parts xs (position_or_len (λ b. nat_eq b 46) xs) → Parts (x ∷ xs) (position_or_len (λ b. nat_eq b 46) (x ∷ xs))
-    go true ed again = rw ed (refl, refl)
-    go false ed again = rw ed (shift_take (position_or_len (λ b. nat_eq b 46) xs) x xs ∙ ap (λ ys. x ∷ ys) again.0, shift_drop (position_or_len (λ b. nat_eq b 46) xs) x xs ∙ again.1)
-
-pub parts_at : (xs : List ℕ) (n : ℕ) → position (λ b. nat_eq b 46) xs ≡ Some n → (take n xs ≡ before_dot xs) × (drop (n + 1) xs ≡ behind_dot xs)
-parts_at xs n e = go (nat_lt (position_or_len (λ b. nat_eq b 46) xs) (length xs)) e
-  where
-    go : (b : Bool) → cond b (Some (position_or_len (λ b. nat_eq b 46) xs)) None ≡ Some n → Parts xs n
-    go true e = let same : position_or_len (λ b. nat_eq b 46) xs ≡ n = cc in subst (Parts xs) same (parts xs)
-    go false e = absurd cc
-
-pub parts_none : (xs : List ℕ) → position (λ b. nat_eq b 46) xs ≡ None → (before_dot xs ≡ xs) × (behind_dot xs ≡ [])
-parts_none xs e = go (nat_lt (position_or_len (λ b. nat_eq b 46) xs) (length xs)) (Decides-ltb (position_or_len (λ b. nat_eq b 46) xs) (length xs)).1 e
-  where
-    go : (b : Bool) → (position_or_len (λ b. nat_eq b 46) xs < length xs → b ≡ true) → cond b (Some (position_or_len (λ b. nat_eq b 46) xs)) None ≡ None → (before_dot xs ≡ xs) × (behind_dot xs ≡ [])
-    go true d e = absurd cc
-    go false d e =
-        let le : length xs ≤ position_or_len (λ b. nat_eq b 46) xs = grind (arith, d) in
-        let both = parts xs in
-        (sym both.0 ∙ take_all (position_or_len (λ b. nat_eq b 46) xs) xs le, sym both.1 ∙ drop_all (position_or_len (λ b. nat_eq b 46) xs + 1) xs (omega (arith, le)))
+pub bare_none : (p : Place) (bs : List ℕ) → length bs < 1 → bare_from p bs ≡ []
+unfolding bare_from
+bare_none p [] lt = refl
+bare_none p (b ∷ bs) lt = absurd (omega arith)

@@ -5,3 +5,4 @@ pub mod Trees
 pub mod Nodes
 pub mod Bare
 pub mod Numbers
+pub mod Places

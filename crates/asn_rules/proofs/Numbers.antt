@@ -5,8 +5,8 @@ use Rattle.std.specs.List.{list_all}
 use Rattle.std.proofs.lemmas.Bool.Decides.{Decides-ltb, nat_tests}
 use Rattle.std.specs.Int.{w128}
 use Rattle.asn_rules.specs.Lexical.{is_digit}
-use Rattle.asn_rules.specs.Guards.{bare, are_digits, decimal, is_negative, unsigned, spelled, fitting, number}
-use Rattle.asn_rules.specs.Sizes.{at_some, lengthened_by, sized, starts_bare}
+use Rattle.asn_rules.specs.Guards.{are_digits, decimal, is_negative, unsigned, spelled, fitting, integer, number, natural}
+use Rattle.asn_rules.specs.Sizes.{at_some, lengthened_by, sized, below, narrowed}
 
 -- a digit behind a number
 abbrev pushed : ℕ → ℕ → ℕ
@@ -49,24 +49,12 @@ read_by (b ∷ bs) n lt = go (is_digit b) (nat_lt (pushed n b) (2 ^ 128)) refl r
         ap (λ a. at_some (if a && nat_lt (pushed n b) (2 ^ 128) then Some (pushed n b) else None) (lengthened_by bs)) ea
         ∙ sym (ap (λ a. if (a && list_all is_digit bs) && nat_lt (fold pushed (pushed n b) bs) (2 ^ 128) then Some (fold pushed (pushed n b) bs) else None) ea)
 
-pub sized_is : (bs : List ℕ) → sized bs ≡ (if are_digits bs && nat_lt (decimal bs) (2 ^ 128) then Some (decimal bs) else None)
+pub sized_is : (bs : List ℕ) → sized bs ≡ natural 128 bs
 sized_is [] = refl
 sized_is (b ∷ bs) = read_by (b ∷ bs) 0 (omega arith)
 
-pub unsigned_is : (bs : List ℕ) → is_negative bs ≡ true → unsigned bs ≡ drop 1 bs
-unsigned_is [] e = absurd cc
-unsigned_is (b ∷ bs) e = ap (λ t. if t then bs else b ∷ bs) e
-
-pub signed_bare : (bs : List ℕ) → starts_bare bs ≡ true → (is_negative (bare bs) ≡ is_negative bs) × (unsigned (bare bs) ≡ bare (unsigned bs))
-signed_bare [] e = (refl, refl)
-signed_bare (b ∷ bs) e = (ap (λ t. is_negative (cond t (b ∷ bare bs) (bare bs))) e, ap (λ t. unsigned (cond t (b ∷ bare bs) (bare bs))) e ∙ go (nat_eq b 45))
-  where
-    go : (m : Bool) → (if m then bare bs else b ∷ bare bs) ≡ bare (if m then bs else b ∷ bs)
-    go true = refl
-    go false = sym (ap (λ t. cond t (b ∷ bare bs) (bare bs)) e)
-
 -- what is checked is what fits
-pub fitting_is : (z : ℤ) (r : Option ℤ) → SomeIff r (FitsSigned w128 z) z → r ≡ fitting z
+pub fitting_is : (z : ℤ) (r : Option ℤ) → SomeIff r (FitsSigned w128 z) z → r ≡ fitting 127 z
 fitting_is (pos n) (Some x) h =
     let low : n < 2 ^ 127 = h.0.sfits in
     ap Some h.1 ∙ sym (ap (λ b. if b then Some (pos n) else None) ((Decides-ltb n (2 ^ 127)).1 low))
@@ -85,7 +73,7 @@ fitting_is (negsuc n) None h = go (nat_le n (2 ^ 127 - 1)) refl
     go true e = let low : n < 2 ^ 127 = grind (arith, nat_tests, e) in absurd (h (record { sfits = low }))
     go false e = refl
 
-too_large : (negative : Bool) (m : ℕ) → 2 ^ 128 ≤ m → fitting (if negative then neg_ℤ (pos m) else pos m) ≡ None
+too_large : (negative : Bool) (m : ℕ) → 2 ^ 128 ≤ m → fitting 127 (if negative then neg_ℤ (pos m) else pos m) ≡ None
 too_large true zero le = absurd (omega (arith, le))
 too_large true (suc k) le =
     let off : nat_le k (2 ^ 127 - 1) ≡ false = grind (arith, nat_tests, le) in
@@ -95,30 +83,51 @@ too_large false m le =
     ap (λ b. if b then Some (pos m) else None) off
 
 -- The number, by the size of its digits.
-of_some : (bs : List ℕ) (m : ℕ) → sized (unsigned bs) ≡ Some m → number bs ≡ fitting (if is_negative bs then neg_ℤ (pos m) else pos m)
-of_some bs m e = go (are_digits (unsigned bs)) (nat_lt (decimal (unsigned bs)) (2 ^ 128)) (sym (sized_is (unsigned bs)) ∙ e)
+by_size : (negative : Bool) (bs : List ℕ) → at_some (natural 128 bs) (λ m. fitting 127 (if negative then neg_ℤ (pos m) else pos m)) ≡ (if are_digits bs then fitting 127 (if negative then neg_ℤ (pos (decimal bs)) else pos (decimal bs)) else None)
+by_size negative bs = go (are_digits bs) (nat_lt (decimal bs) (2 ^ 128)) (Decides-ltb (decimal bs) (2 ^ 128)).1
   where
-    go : (a l : Bool) → (if a && l then Some (decimal (unsigned bs)) else None) ≡ Some m → (if a then fitting (spelled bs) else None) ≡ fitting (if is_negative bs then neg_ℤ (pos m) else pos m)
-    go true true e = let same : decimal (unsigned bs) ≡ m = cc in ap (λ n. fitting (if is_negative bs then neg_ℤ (pos n) else pos n)) same
-    go true false e = absurd cc
-    go false l e = absurd cc
+    go : (a l : Bool) → (decimal bs < 2 ^ 128 → l ≡ true) → at_some (if a && l then Some (decimal bs) else None) (λ m. fitting 127 (if negative then neg_ℤ (pos m) else pos m)) ≡ (if a then fitting 127 (if negative then neg_ℤ (pos (decimal bs)) else pos (decimal bs)) else None)
+    go true true d = refl
+    go true false d = let high : 2 ^ 128 ≤ decimal bs = grind (arith, d) in sym (too_large negative (decimal bs) high)
+    go false l d = refl
 
-of_none : (bs : List ℕ) → sized (unsigned bs) ≡ None → number bs ≡ None
-of_none bs e = go (are_digits (unsigned bs)) (nat_lt (decimal (unsigned bs)) (2 ^ 128)) refl (sym (sized_is (unsigned bs)) ∙ e)
+pub number_minus : (bs digits : List ℕ) (size : Option ℕ) → size ≡ natural 128 digits → bs ≡ 45 ∷ digits → number bs ≡ at_some size (λ m. fitting 127 (neg_ℤ (pos m)))
+number_minus bs digits size s e = ap number e ∙ sym (by_size true digits) ∙ ap (λ o. at_some o (λ m. fitting 127 (neg_ℤ (pos m)))) (sym s)
+
+pub number_plain : (bs : List ℕ) (size : Option ℕ) → size ≡ natural 128 bs → is_negative bs ≡ false → number bs ≡ at_some size (λ m. fitting 127 (pos m))
+number_plain [] size s e = sym (ap (λ o. at_some o (λ m. fitting 127 (pos m))) s)
+number_plain (b ∷ bs) size s e =
+    ap (λ t. if are_digits (if t then bs else b ∷ bs) then fitting 127 (if t then neg_ℤ (pos (decimal (if t then bs else b ∷ bs))) else pos (decimal (if t then bs else b ∷ bs))) else None) e
+    ∙ sym (by_size false (b ∷ bs))
+    ∙ ap (λ o. at_some o (λ m. fitting 127 (pos m))) (sym s)
+
+-- what fits few bits fits more
+pub natural_below : (bs : List ℕ) → natural 64 bs ≡ below 64 (natural 128 bs)
+natural_below bs = go (are_digits bs) (nat_lt (decimal bs) (2 ^ 128)) (nat_lt (decimal bs) (2 ^ 64)) (Decides-ltb (decimal bs) (2 ^ 128)).1 (Decides-ltb (decimal bs) (2 ^ 64)).0 refl
   where
-    go : (a l : Bool) → nat_lt (decimal (unsigned bs)) (2 ^ 128) ≡ l → (if a && l then Some (decimal (unsigned bs)) else None) ≡ None → (if a then fitting (spelled bs) else None) ≡ None
-    go true true el e = absurd cc
-    go true false el e = let high : 2 ^ 128 ≤ decimal (unsigned bs) = grind (arith, nat_tests, el) in too_large (is_negative bs) (decimal (unsigned bs)) high
-    go false l el e = refl
+    go : (a l m : Bool) → (decimal bs < 2 ^ 128 → l ≡ true) → (m ≡ true → decimal bs < 2 ^ 64) → nat_lt (decimal bs) (2 ^ 64) ≡ m → (if a && m then Some (decimal bs) else None) ≡ below 64 (if a && l then Some (decimal bs) else None)
+    go true true m d f e = sym (ap (λ t. if t then Some (decimal bs) else None) e)
+    go true false true d f e = let low = f refl in absurd (grind (arith, d, low))
+    go true false false d f e = refl
+    go false l m d f e = refl
 
-pub number_some : (rest taken : List ℕ) (m : ℕ) → starts_bare rest ≡ true → bare rest ≡ bare taken → sized (bare (unsigned rest)) ≡ Some m → number (bare taken) ≡ fitting (if is_negative rest then neg_ℤ (pos m) else pos m)
-number_some rest taken m begins same e =
-    let both = signed_bare rest begins in
-    sym (ap number same)
-    ∙ of_some (bare rest) m (ap sized both.1 ∙ e)
-    ∙ ap (λ t. fitting (if t then neg_ℤ (pos m) else pos m)) both.0
+narrow : (z : ℤ) → fitting 31 z ≡ narrowed 31 (fitting 127 z)
+narrow (pos n) = go (nat_lt n (2 ^ 127)) (nat_lt n (2 ^ 31)) (Decides-ltb n (2 ^ 127)).1 (Decides-ltb n (2 ^ 31)).0 refl
+  where
+    go : (l m : Bool) → (n < 2 ^ 127 → l ≡ true) → (m ≡ true → n < 2 ^ 31) → nat_lt n (2 ^ 31) ≡ m → (if m then Some (pos n) else None) ≡ narrowed 31 (if l then Some (pos n) else None)
+    go true m d f e = sym (ap (λ t. if t then Some (pos n) else None) e)
+    go false true d f e = let low = f refl in absurd (grind (arith, d, low))
+    go false false d f e = refl
+narrow (negsuc n) = go (nat_le n (2 ^ 127 - 1)) (nat_le n (2 ^ 31 - 1)) refl refl
+  where
+    go : (l m : Bool) → nat_le n (2 ^ 127 - 1) ≡ l → nat_le n (2 ^ 31 - 1) ≡ m → (if m && true then Some (negsuc n) else None) ≡ narrowed 31 (if l && true then Some (negsuc n) else None)
+    go true m d e = sym (ap (λ t. if t && true then Some (negsuc n) else None) e)
+    go false true d e = absurd (grind (arith, nat_tests, d, e))
+    go false false d e = refl
 
-pub number_none : (rest taken : List ℕ) → starts_bare rest ≡ true → bare rest ≡ bare taken → sized (bare (unsigned rest)) ≡ None → number (bare taken) ≡ None
-number_none rest taken begins same e =
-    let both = signed_bare rest begins in
-    sym (ap number same) ∙ of_none (bare rest) (ap sized both.1 ∙ e)
+pub integer_narrowed : (bs : List ℕ) → integer 31 bs ≡ narrowed 31 (number bs)
+integer_narrowed bs = go (are_digits (unsigned bs)) (narrow (spelled bs))
+  where
+    go : (a : Bool) → fitting 31 (spelled bs) ≡ narrowed 31 (fitting 127 (spelled bs)) → (if a then fitting 31 (spelled bs) else None) ≡ narrowed 31 (if a then fitting 127 (spelled bs) else None)
+    go true e = e
+    go false e = refl

@@ -9,7 +9,7 @@ use Rattle.std.specs.Ordering.{ord_max, nat_cmp}
 use Rattle.asn_rules.specs.Expression.{Expression, see, seq, choice, many, never, guarded, rule, skip, Sight, bytes, word, one_of, rule_of}
 use Rattle.asn_rules.specs.Lexical.{stands, width, word_ends}
 use Rattle.asn_rules.specs.Guards.{allows}
-use Rattle.asn_rules.specs.Runs.{Ending, ends, fails, seen, judged, Runs, sees, seq_ends, seq_fails, choice_first, choice_second, many_turn, many_idle, many_fails, never_ends, never_fails, guard_judges, guard_fails, calls, skips, Answer, Answers}
+use Rattle.asn_rules.specs.Runs.{Ending, ends, fails, seen, judged, Runs, sees, seq_ends, seq_fails, choice_first, choice_second, many_turn, many_idle, many_fails, never_ends, never_fails, guard_judges, guard_fails, calls, skips, Answer, Answers, IsOutcome, Exceeds}
 use Rattle.asn_rules.specs.Answer.{at_height, raised, raise, one_more, higher, then_from, or_else, turned, judge, turn, turns, expr_answer, call_answer, answer, IsWithin, height_of}
 use Rattle.asn_rules.specs.declared.expression.Guard.{Guard}
 use Rattle.asn_rules.specs.declared.run.Outcome.{Outcome}
@@ -346,6 +346,11 @@ module _ (rules : List Expression) (text : List ℕ) where
   tries d e i (Ok (Fail h)) le eq w = (subst (Sound e i) (sym eq) (sound d e i le), w)
   tries d e i (Err TooDeep) le eq w = λ o h p. too_deep d e i o h TooDeep le (sym eq) p
   tries d e i (Err OutOfMemory) le eq w = subst (Low d) (sym eq) (low_expr d (call_answer rules text d) (low_call d) e i)
+
+  -- The same, without the want of memory that there never is.
+  pub deeper : (d : ℕ) (e : Expression) (i : ℕ) (x : Answer) (f : MatchFault) → i ≤ length text → x ≡ answer rules text d e i → x ≡ Err f → Exceeds rules text e i d
+  deeper d e i x TooDeep le eq is = λ o h p. too_deep d e i o h TooDeep le (sym eq ∙ is) p
+  deeper d e i x OutOfMemory le eq is = absurd (subst (Low d) (sym eq ∙ is) (low_expr d (call_answer rules text d) (low_call d) e i))
 
 pub raise_raise : (a b : ℕ) (x : Answer) → raise a (raise b x) ≡ raise (max a b) x
 raise_raise a b (Ok (End j h)) = ap (λ k. Ok (End j k)) (omega arith)

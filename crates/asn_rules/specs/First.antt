@@ -1,87 +1,13 @@
--- The table of the first part of ASN.1: at each number its rule. "x" and 'X' skip blanks; 'X' is a whole word.
-use Rattle.std.specs.Prelude.{ℕ, List, [], ◌∷◌, codes}
-use Rattle.asn_rules.specs.Expression.{Expression, see, seq, choice, many, never, guarded, rule, skip, bytes, word, one_of}
-use Rattle.asn_rules.specs.declared.expression.ByteClass.TheVariants.{Blank, Digit, Letter, Alnum, Cap, Any}
-use Rattle.asn_rules.specs.declared.expression.Guard.TheVariants.{NoKeyword, FitsI128, IsOrdered}
+-- The table of the first part of ASN.1: at each number its rule. "x" and 'X' skip blanks and comments; 'X' is a whole word.
+use Rattle.std.specs.Prelude.{List, [], ◌∷◌, codes}
+use Rattle.asn_rules.specs.Expression.{Expression, many, never, guarded, rule}
+use Rattle.asn_rules.specs.Forms.{◌·◌, ◌¦◌, sp, whole, symbol, keyword, maybe, some, no_rule, any}
+use Rattle.asn_rules.specs.LexicalRules.{lexical_rules_before}
+use Rattle.asn_rules.specs.declared.expression.Guard.TheVariants.{IsOrdered}
 
-infixr 7 ◌·◌
-abbrev pub ◌·◌ : Expression → Expression → Expression
-a · b = seq a b
-
-infixr 6 ◌¦◌
-abbrev pub ◌¦◌ : Expression → Expression → Expression
-a ¦ b = choice a b
-
-abbrev pub sp : Expression
-sp = rule 1
-
--- the blanks before a literal
-abbrev pub gap : Expression
-gap = skip 1
-
-abbrev pub literal : List ℕ → Expression
-literal x = see (bytes x)
-
-abbrev pub whole : List ℕ → Expression
-whole x = see (word x)
-
-abbrev pub symbol : List ℕ → Expression
-symbol x = gap · literal x
-
-abbrev pub keyword : List ℕ → Expression
-keyword x = gap · whole x
-
-abbrev pub maybe : Expression → Expression
-maybe a = a ¦ literal []
-
-abbrev pub some : Expression → Expression
-some a = a · many a
-
-abbrev pub no_rule : Expression
-no_rule = never (literal [])
-
-abbrev pub letter : Expression
-letter = see (one_of Letter)
-
-abbrev pub digit : Expression
-digit = see (one_of Digit)
-
-abbrev pub alnum : Expression
-alnum = see (one_of Alnum)
-
-abbrev pub cap : Expression
-cap = see (one_of Cap)
-
-abbrev pub blank : Expression
-blank = see (one_of Blank)
-
-abbrev pub any : Expression
-any = see (one_of Any)
-
-unfoldable pub first : List Expression
-first =
-    no_rule ∷
-    -- 1 sp = blank*
-    many blank ∷
-    no_rule ∷ no_rule ∷ no_rule ∷ no_rule ∷ no_rule ∷
-    -- 7 name_tail = (alnum / `-` alnum)*
-    (many (alnum ¦ ((literal (codes "-")) · alnum))) ∷
-    -- 8 identifier = sp letter name_tail
-    (sp · letter · rule 7) ∷
-    -- 9 title_case_identifier = sp cap name_tail {no keyword}
-    (guarded (sp · cap · rule 7) NoKeyword) ∷
-    no_rule ∷ no_rule ∷ no_rule ∷ no_rule ∷
-    -- 14 digits = digit+
-    some digit ∷
-    no_rule ∷ no_rule ∷
-    -- 17 number_i128 = sp `-`? sp digits {fits i128}
-    (guarded (sp · (maybe (literal (codes "-"))) · sp · rule 14) FitsI128) ∷
-    no_rule ∷ no_rule ∷
-    -- 20 range_seperator = ".."
-    symbol (codes "..") ∷
-    no_rule ∷
-    -- 22 assignment = "::="
-    symbol (codes "::=") ∷
+-- rules 23 to 190
+unfoldable pub further : List Expression
+further =
     no_rule ∷ no_rule ∷ no_rule ∷ no_rule ∷ no_rule ∷ no_rule ∷ no_rule ∷ no_rule ∷ no_rule ∷ no_rule ∷
     no_rule ∷ no_rule ∷ no_rule ∷ no_rule ∷ no_rule ∷ no_rule ∷ no_rule ∷ no_rule ∷ no_rule ∷ no_rule ∷
     no_rule ∷
@@ -148,3 +74,6 @@ first =
     -- 190 asn_spec = asn_module+ sp !any
     ((some (rule 189)) · sp · (never any)) ∷
     []
+
+unfoldable pub first : List Expression
+first = lexical_rules_before further

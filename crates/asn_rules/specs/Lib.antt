@@ -2,7 +2,10 @@ pub mod Expression
 pub mod Lexical
 pub mod Guards
 pub mod Sizes
+pub mod Forms
+pub mod LexicalRules
 pub mod First
+pub mod Whole
 pub mod Grammar
 pub mod Runs
 pub mod Answer
@@ -10,3 +13,4 @@ pub mod Derives
 pub mod Grown
 pub mod Nodes
 pub mod Valid
+pub mod RuleNames

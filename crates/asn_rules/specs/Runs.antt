@@ -7,6 +7,7 @@ use Rattle.asn_rules.specs.declared.expression.Guard.{Guard}
 use Rattle.asn_rules.specs.declared.run.Outcome.{Outcome}
 use Rattle.asn_rules.specs.declared.run.Outcome.TheVariants.{End, Fail}
 use Rattle.asn_rules.specs.declared.run.MatchFault.{MatchFault}
+use Rattle.asn_rules.specs.declared.run.TooDeep as deep
 use Rattle.asn_rules.specs.declared.run.MatchFault.TheVariants.{TooDeep, OutOfMemory}
 
 -- it ends at an offset, or it fails
@@ -44,13 +45,26 @@ pub record ExactlyOne (rules : List Expression) (text : List ℕ) (e : Expressio
   pub one : (o : Ending) × (h : ℕ) × Runs rules text e i o h
   pub only : (o o' : Ending) (h h' : ℕ) → Runs rules text e i o h → Runs rules text e i o' h' → (o ≡ o') × (h ≡ h')
 
+-- The ending with its height, which is at most the depth.
+abbrev pub IsOutcome : List Expression → List ℕ → Expression → ℕ → ℕ → Outcome → Type 0
+IsOutcome rules text e i depth (End j h) = Runs rules text e i (ends j) h × (h ≤ depth)
+IsOutcome rules text e i depth (Fail h) = Runs rules text e i fails h × (h ≤ depth)
+
+-- The height exceeds the depth.
+abbrev pub Exceeds : List Expression → List ℕ → Expression → ℕ → ℕ → Type 0
+Exceeds rules text e i depth = (o : Ending) (h : ℕ) → Runs rules text e i o h → depth < h
+
 -- what a try answers
 abbrev pub Answer : Type 0
 Answer = Result Outcome MatchFault
 
--- The ending and the height, or where the height exceeds the depth, that this is so.
+-- The outcome, or where the height exceeds the depth, that this is so.
 abbrev pub Answers : List Expression → List ℕ → Expression → ℕ → ℕ → Answer → Type 0
-Answers rules text e i depth (Ok (End j h)) = Runs rules text e i (ends j) h × (h ≤ depth)
-Answers rules text e i depth (Ok (Fail h)) = Runs rules text e i fails h × (h ≤ depth)
-Answers rules text e i depth (Err TooDeep) = (o : Ending) (h : ℕ) → Runs rules text e i o h → depth < h
+Answers rules text e i depth (Ok o) = IsOutcome rules text e i depth o
+Answers rules text e i depth (Err TooDeep) = Exceeds rules text e i depth
 Answers rules text e i depth (Err OutOfMemory) = ⊥
+
+-- The same of a try that takes no memory.
+abbrev pub AnswersInDepth : List Expression → List ℕ → Expression → ℕ → ℕ → Result Outcome deep.TooDeep → Type 0
+AnswersInDepth rules text e i depth (Ok o) = IsOutcome rules text e i depth o
+AnswersInDepth rules text e i depth (Err f) = Exceeds rules text e i depth

@@ -1,13 +1,13 @@
--- The size of a number, read digit by digit. Only private contracts cite these.
-use Rattle.std.specs.Prelude.{ℕ, ◌+◌, ◌*◌, ◌-◌, ◌^◌, List, [], ◌∷◌, Bool, true, ◌&&◌, nat_lt, Option, Some, None, if◌then◌else◌, not}
-use Rattle.asn_rules.specs.Lexical.{is_blank, is_digit}
-use Rattle.asn_rules.specs.Guards.{is_empty}
+-- Numbers, read digit by digit, and bytes outside blanks and comments, found one by one. Only private contracts cite these.
+use Rattle.std.specs.Prelude.{ℕ, zero, ◌+◌, ◌*◌, ◌-◌, ◌^◌, List, [], ◌∷◌, Bool, true, false, ◌&&◌, nat_lt, Option, Some, None, if◌then◌else◌, ℤ}
+use Rattle.asn_rules.specs.Lexical.{is_digit}
+use Rattle.asn_rules.specs.Guards.{within, is_outside, bare, is_empty, before_dot, fitting}
 
 -- the number with a digit behind it, below 2^128
 abbrev pub lengthened : ℕ → ℕ → Option ℕ
 lengthened n b = if is_digit b && nat_lt (n * 10 + (b - 48)) (2 ^ 128) then Some (n * 10 + (b - 48)) else None
 
-abbrev pub at_some : Option ℕ → (ℕ → Option ℕ) → Option ℕ
+abbrev pub at_some : {A B : Type 0} → Option A → (A → Option B) → Option B
 at_some None f = None
 at_some (Some n) f = f n
 
@@ -19,6 +19,19 @@ lengthened_by (b ∷ bs) n = at_some (lengthened n b) (lengthened_by bs)
 abbrev pub sized : List ℕ → Option ℕ
 sized bs = if is_empty bs then None else lengthened_by bs 0
 
+-- the numbers that fit fewer bits
+abbrev pub below : ℕ → Option ℕ → Option ℕ
+below bits o = at_some o (λ n. if nat_lt n (2 ^ bits) then Some n else None)
+
+abbrev pub narrowed : ℕ → Option ℤ → Option ℤ
+narrowed bits o = at_some o (fitting bits)
+
+-- the first of the bytes is outside blanks and comments, if there is one
 abbrev pub starts_bare : List ℕ → Bool
 starts_bare [] = true
-starts_bare (b ∷ bs) = not (is_blank b)
+starts_bare (b ∷ bs) = is_outside (within 0) (b ∷ bs)
+
+-- the bytes, or those before the first dot
+abbrev pub part : Bool → List ℕ → List ℕ
+part true bs = before_dot bs
+part false bs = bs

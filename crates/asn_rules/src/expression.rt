@@ -1,6 +1,6 @@
 //! The forms of which a rule of an ordered grammar is made.
 //!
-//! The tables in `first.rt` are made of these, and the interpreters in `run.rt` and `derive.rt` read them.
+//! The tables in `first.rt` and `whole.rt` are made of these, and the interpreters in `run.rt` and `derive.rt` read them.
 
 /// A class of bytes. Letters and digits are those of ASCII.
 #[derive(Clone, Copy)]
@@ -25,14 +25,22 @@ pub enum ByteClass {
     Any,
 }
 
-/// A test of the bytes that an expression took. Blanks among them count for nothing.
+/// A test of the bytes that an expression took. Blanks and comments among them count for nothing.
 #[derive(Clone, Copy)]
 pub enum Guard {
     /// They are none of the reserved words [`crate::ASN1_KEYWORDS`].
     NoKeyword,
+    /// They are none of the reserved words, or `TYPE-IDENTIFIER` or `ABSTRACT-SYNTAX`.
+    NamesClass,
+    /// They are a whole number from 0 to 2^64 - 1.
+    FitsU64,
+    /// They are a whole number from 0 to 2^128 - 1.
+    FitsU128,
     /// They are a whole number from -2^127 to 2^127 - 1.
     FitsI128,
-    /// They are two such numbers with `..` between them, the first at most the second.
+    /// They are a whole number from -2^31 to 2^31 - 1.
+    FitsI32,
+    /// They are two numbers as [`Guard::FitsI128`] asks, with `..` between them, the first at most the second.
     IsOrdered,
 }
 

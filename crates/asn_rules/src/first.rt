@@ -1,99 +1,28 @@
 //! The table of the first part of ASN.1: a static for each rule, with its text above it.
 //!
-//! A name in a row is a call of that rule. `"x"` and `'X'` skip blanks; then `"x"` stands as it is, and `'X'` as a whole
-//! word. `?`, `*` and `+` are an option, any number of turns, at least one; `/` tries the second where the first fails;
-//! `!` looks ahead; what stands in braces is a guard. `grammar.rt` alone calls this file.
+//! Rules 1 to 22 are those of `lexical_rules.rt`, where the words of a row are explained; `'X'` skips blanks and comments,
+//! and then stands as a whole word. `grammar.rt` alone calls this file.
 
 ghost use Rattle.std.specs.Prelude.{◌≡◌, ◌≤◌};
 ghost use Rattle.asn_rules.specs.Expression.{expression, rule_of, weight};
 ghost use Rattle.asn_rules.specs.First.{first};
 
 use crate::expression::Expression::{Call, Guarded, Many, Not};
-use crate::expression::{ByteClass, Expression, Guard, Sight};
+use crate::expression::{Expression, Guard, Sight};
+use crate::forms::{ANY, BLANKS, EMPTY, GAP, choice, keyword, option, seq, some, symbol, word};
+use crate::lexical_rules::{
+    NO_RULE, RULE_1, RULE_2, RULE_3, RULE_4, RULE_5, RULE_6, RULE_7, RULE_8, RULE_9, RULE_10,
+    RULE_11, RULE_12, RULE_13, RULE_14, RULE_15, RULE_16, RULE_17, RULE_18, RULE_19, RULE_20,
+    RULE_21, RULE_22,
+};
 use crate::names::{
     ASN_MODULE, ASN1_TYPE, ASN1_VALUE, ASSIGNMENT, BOOLEAN, COMPONENT_LIST, CONSTRAINT, DEFINITION,
-    DIGITS, ELSEWHERE_DECLARED_TYPE, END, ENVIRONMENTS, IDENTIFIER, INTEGER, INTEGER_VALUE,
-    MODULE_REFERENCE, NAME_TAIL, NUMBER_I128, RANGE_SEPERATOR, SEQUENCE, SEQUENCE_COMPONENT,
-    SEQUENCE_OR_SET_MEMBER, SP, STRUCT_BODY, TAG_DEFAULT, TITLE_CASE_IDENTIFIER,
+    ELSEWHERE_DECLARED_TYPE, END, ENVIRONMENTS, IDENTIFIER, INTEGER, INTEGER_VALUE,
+    MODULE_REFERENCE, NUMBER_I128, RANGE_SEPERATOR, SEQUENCE, SEQUENCE_COMPONENT,
+    SEQUENCE_OR_SET_MEMBER, STRUCT_BODY, TAG_DEFAULT, TITLE_CASE_IDENTIFIER,
     TOP_LEVEL_TYPE_DECLARATION, VALUE_RANGE,
 };
 
-macro_rules! seq {
-    ($a:expr) => { $a };
-    ($a:expr, $($rest:expr),+) => { Expression::Sequence(&$a, &seq!($($rest),+)) };
-}
-
-macro_rules! choice {
-    ($a:expr) => { $a };
-    ($a:expr, $($rest:expr),+) => { Expression::Choice(&$a, &choice!($($rest),+)) };
-}
-
-macro_rules! bytes {
-    ($text:expr) => { Expression::See(Sight::Bytes($text)) };
-}
-
-macro_rules! word {
-    ($text:expr) => { Expression::See(Sight::Word($text)) };
-}
-
-macro_rules! symbol {
-    ($text:expr) => { Expression::Sequence(&GAP, &Expression::See(Sight::Bytes($text))) };
-}
-
-macro_rules! keyword {
-    ($text:expr) => { Expression::Sequence(&GAP, &Expression::See(Sight::Word($text))) };
-}
-
-macro_rules! option {
-    ($a:expr) => { Expression::Choice(&$a, &EMPTY) };
-}
-
-macro_rules! some {
-    ($a:expr) => { Expression::Sequence(&$a, &Expression::Many(&$a)) };
-}
-
-const BLANKS: Expression = Expression::Call(SP);
-
-// The blanks before a literal: no reader needs them.
-const GAP: Expression = Expression::Skip(SP);
-
-const EMPTY: Expression = Expression::See(Sight::Bytes(b""));
-
-const NONE: Expression = Expression::Not(&EMPTY);
-
-const LETTER: Expression = Expression::See(Sight::OneOf(ByteClass::Letter));
-
-const DIGIT: Expression = Expression::See(Sight::OneOf(ByteClass::Digit));
-
-const ALNUM: Expression = Expression::See(Sight::OneOf(ByteClass::Alnum));
-
-const CAP: Expression = Expression::See(Sight::OneOf(ByteClass::Cap));
-
-const BLANK: Expression = Expression::See(Sight::OneOf(ByteClass::Blank));
-
-const ANY: Expression = Expression::See(Sight::OneOf(ByteClass::Any));
-
-static NO_RULE: Expression = NONE;
-
-// 1 sp = blank*
-static RULE_1: Expression = Many(&BLANK);
-// 7 name_tail = (alnum / `-` alnum)*
-static RULE_7: Expression = Many(&choice!(ALNUM, seq!(bytes!(b"-"), ALNUM)));
-// 8 identifier = sp letter name_tail
-static RULE_8: Expression = seq!(BLANKS, LETTER, Call(NAME_TAIL));
-// 9 title_case_identifier = sp cap name_tail {no keyword}
-static RULE_9: Expression = Guarded(&seq!(BLANKS, CAP, Call(NAME_TAIL)), Guard::NoKeyword);
-// 14 digits = digit+
-static RULE_14: Expression = some!(DIGIT);
-// 17 number_i128 = sp `-`? sp digits {fits i128}
-static RULE_17: Expression = Guarded(
-    &seq!(BLANKS, option!(bytes!(b"-")), BLANKS, Call(DIGITS)),
-    Guard::FitsI128,
-);
-// 20 range_seperator = ".."
-static RULE_20: Expression = symbol!(b"..");
-// 22 assignment = "::="
-static RULE_22: Expression = symbol!(b"::=");
 // 44 integer_value = number_i128
 static RULE_44: Expression = Call(NUMBER_I128);
 // 53 asn1_value = integer_value
@@ -162,7 +91,7 @@ static RULE_189: Expression = seq!(Call(MODULE_REFERENCE), Many(&Call(DEFINITION
 static RULE_190: Expression = seq!(some!(Call(ASN_MODULE)), BLANKS, Not(&ANY));
 
 /// The expression of a rule; of a number that is no rule's, one that fails everywhere.
-#[tactic(auto, unfolding(crate::specs::First::first))]
+#[tactic(auto, unfolding(crate::specs::First::first, crate::specs::First::further, crate::specs::LexicalRules::lexical_rules_before))]
 pub(crate) fn first_expression(rule: u8) -> &'static Expression
     ensures value { expression result.now ≡ rule_of first rule }
     ensures weight { weight (expression result.now) ≤ 999 }
@@ -170,26 +99,26 @@ pub(crate) fn first_expression(rule: u8) -> &'static Expression
     match rule {
         0 => &NO_RULE,
         1 => &RULE_1,
-        2 => &NO_RULE,
-        3 => &NO_RULE,
-        4 => &NO_RULE,
-        5 => &NO_RULE,
-        6 => &NO_RULE,
+        2 => &RULE_2,
+        3 => &RULE_3,
+        4 => &RULE_4,
+        5 => &RULE_5,
+        6 => &RULE_6,
         7 => &RULE_7,
         8 => &RULE_8,
         9 => &RULE_9,
-        10 => &NO_RULE,
-        11 => &NO_RULE,
-        12 => &NO_RULE,
-        13 => &NO_RULE,
+        10 => &RULE_10,
+        11 => &RULE_11,
+        12 => &RULE_12,
+        13 => &RULE_13,
         14 => &RULE_14,
-        15 => &NO_RULE,
-        16 => &NO_RULE,
+        15 => &RULE_15,
+        16 => &RULE_16,
         17 => &RULE_17,
-        18 => &NO_RULE,
-        19 => &NO_RULE,
+        18 => &RULE_18,
+        19 => &RULE_19,
         20 => &RULE_20,
-        21 => &NO_RULE,
+        21 => &RULE_21,
         22 => &RULE_22,
         23 => &NO_RULE,
         24 => &NO_RULE,

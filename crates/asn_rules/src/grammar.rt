@@ -1,6 +1,6 @@
 //! The grammars there are.
 //!
-//! The interpreters ask here for the expression of a rule; the tables themselves are `first.rt`.
+//! The interpreters ask here for the expression of a rule; the tables themselves are `first.rt` and `whole.rt`.
 
 ghost use Rattle.std.specs.Prelude.{◌≡◌, ◌≤◌};
 ghost use Rattle.asn_rules.specs.Expression.{expression, rule_of, weight};
@@ -8,12 +8,15 @@ ghost use Rattle.asn_rules.specs.Grammar.{rules_of};
 
 use crate::expression::Expression;
 use crate::first::first_expression;
+use crate::whole::whole_expression;
 
-/// A table of rules. The whole of ASN.1 and a second edition will be further variants.
+/// A table of rules. A second edition will be a further variant.
 #[derive(Clone, Copy, Debug, PartialEq, Eq)]
 pub enum Grammar {
     /// Modules of SEQUENCE, INTEGER with a range, BOOLEAN, and types declared elsewhere.
     First,
+    /// The whole of ASN.1; so far its lexical rules.
+    Whole,
 }
 
 /// The expression of a rule in the grammar; of a number that is no rule's, one that fails everywhere.
@@ -23,5 +26,6 @@ pub fn rule_expression(grammar: Grammar, rule: u8) -> &'static Expression
 {
     match grammar {
         Grammar::First => first_expression(rule),
+        Grammar::Whole => whole_expression(rule),
     }
 }

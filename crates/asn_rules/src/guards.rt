@@ -1,15 +1,18 @@
 //! Guards: what a rule asks of the bytes that it took, beyond its form.
 //!
-//! Both interpreters call `is_allowed`. No memory is taken: blanks are stepped over where they lie.
+//! Both interpreters call `is_allowed`. No memory is taken: blanks and comments are stepped over where they lie, by
+//! `gaps.rt`.
 
-ghost use Rattle.std.specs.Prelude.{◌≡◌, true, nat_eq, if◌then◌else◌, pos, neg_ℤ, position};
+ghost use Rattle.std.specs.Prelude.{◌≡◌, ◌<◌, true, false, nat_eq, if◌then◌else◌, pos, neg_ℤ, length, codes, IfSome, ◌∷◌, []};
+ghost use Rattle.std.specs.Option.{MatchOption, is_some};
 ghost use Rattle.std.specs.List.{list_any};
 ghost use Rattle.std.specs.Cmp.Lexicographic.{pointwise};
-ghost use Rattle.asn_rules.specs.Lexical.{is_blank, keywords};
-ghost use Rattle.asn_rules.specs.Guards.{bare, among, is_empty, is_negative, unsigned, fitting, number, at_most, before_dot, behind_dot, is_range, allows};
-ghost use Rattle.asn_rules.specs.Sizes.{starts_bare, lengthened, lengthened_by, sized};
+ghost use Rattle.asn_rules.specs.Lexical.{keywords};
+ghost use Rattle.asn_rules.specs.Guards.{bare, among, is_empty, is_negative, unsigned, fitting, integer, number, natural, names_class, at_most, before_dot, behind_dot, is_range, allows};
+ghost use Rattle.asn_rules.specs.Sizes.{lengthened, lengthened_by, sized, below, narrowed, at_some, part};
 
 use crate::expression::{ByteClass, Guard};
+use crate::gaps::{behind_gap, next_bare};
 use crate::lexical::is_in_class;
 
 /// Reserved words, none of which can be the name of a type. A space stands between two that go together.
@@ -79,31 +82,35 @@ pub static ASN1_KEYWORDS: [&str; 63] = [
     "TAGS",
 ];
 
-/// Whether the bytes outside blanks are one of [`ASN1_KEYWORDS`].
+/// Whether the bytes outside blanks and comments are one of [`ASN1_KEYWORDS`].
 #[tactic(auto, unfolding(crate::specs::Lexical::keywords))]
 pub fn is_keyword(taken: &[u8]) -> bool
     ensures { result ≡ among keywords (bare taken.now) }
 {
-    is_one_of(&ASN1_KEYWORDS, behind_blanks(taken))
+    is_one_of(&ASN1_KEYWORDS, behind_gap(taken))
 }
 
-// Whether the bytes outside blanks are one of the words.
+// Whether the bytes outside blanks and comments are one of the words.
 fn is_one_of(words: &[&str], taken: &[u8]) -> bool
     ensures { result ≡ list_any (λ w. pointwise nat_eq (bare taken.now) w.now) words.now }
 {
     words.iter().any(|word| is_word(taken, word.as_bytes()))
 }
 
-/// The whole number that the bytes outside blanks spell: an optional `-` and at least one digit. Leading zeros count
-/// for nothing. None where they are anything else, or the number is below -2^127 or above 2^127 - 1.
+/// The whole number that the bytes outside blanks and comments spell: an optional `-` and at least one digit. Leading
+/// zeros count for nothing. None where they are anything else, or the number is below -2^127 or above 2^127 - 1.
 pub fn whole_number(taken: &[u8]) -> Option<i128>
     ensures { result ≡ number (bare taken.now) }
 {
-    let rest = behind_blanks(taken);
-    match magnitude(behind_minus(rest)) {
-        Some(size) => signed(has_minus(rest), size),
-        None => None,
-    }
+    number_of(taken, false)
+}
+
+/// The number that the bytes outside blanks and comments spell: at least one digit, and digits alone. Leading zeros
+/// count for nothing. None where they are anything else, or the number is above 2^128 - 1.
+pub fn natural_number(taken: &[u8]) -> Option<u128>
+    ensures { result ≡ natural 128 (bare taken.now) }
+{
+    magnitude(taken, false)
 }
 
 /// Whether the guard lets pass what was taken.
@@ -112,70 +119,108 @@ pub(crate) fn is_allowed(guard: Guard, taken: &[u8]) -> bool
 {
     match guard {
         Guard::NoKeyword => !is_keyword(taken),
+        Guard::NamesClass => !is_keyword(taken) || is_class_word(taken),
+        Guard::FitsU64 => fits_u64(taken),
+        Guard::FitsU128 => natural_number(taken).is_some(),
         Guard::FitsI128 => whole_number(taken).is_some(),
+        Guard::FitsI32 => fits_i32(taken),
         Guard::IsOrdered => is_ordered(taken),
     }
 }
 
-fn is_blank(byte: u8) -> bool
-    ensures { result ≡ is_blank byte }
+fn is_class_word(taken: &[u8]) -> bool
+    ensures { result ≡ names_class (bare taken.now) }
 {
-    is_in_class(ByteClass::Blank, byte)
+    is_word(taken, b"TYPE-IDENTIFIER") || is_word(taken, b"ABSTRACT-SYNTAX")
 }
 
-// The bytes from the first that is no blank on.
-fn behind_blanks(taken: &[u8]) -> &[u8]
-    ensures same { bare result.now ≡ bare taken.now }
-    ensures begins { starts_bare result.now ≡ true }
+#[tactic(auto, using(crate::proofs::Numbers::natural_below))]
+fn fits_u64(taken: &[u8]) -> bool
+    ensures { result ≡ is_some (natural 64 (bare taken.now)) }
 {
-    let mut rest = taken;
-    while let [byte, behind @ ..] = rest {
-        if !is_blank(*byte) {
-            return rest;
-        }
-        rest = behind;
+    match natural_number(taken) {
+        Some(number) => number < 0x1_0000_0000_0000_0000,
+        None => false,
     }
-    rest
 }
 
-// Whether the bytes outside blanks are the word.
+#[tactic(auto, using(crate::proofs::Numbers::integer_narrowed))]
+fn fits_i32(taken: &[u8]) -> bool
+    ensures { result ≡ is_some (integer 31 (bare taken.now)) }
+{
+    match whole_number(taken) {
+        Some(number) => -0x8000_0000 <= number && number < 0x8000_0000,
+        None => false,
+    }
+}
+
+// Whether the bytes outside blanks and comments are the word.
 fn is_word(taken: &[u8], word: &[u8]) -> bool
     ensures { result ≡ pointwise nat_eq (bare taken.now) word.now }
 {
     let mut left = word;
-    for byte in taken {
-        if !is_blank(*byte) {
-            match left {
-                [first, behind @ ..] if *first == *byte => left = behind,
-                _ => return false,
-            }
+    let mut rest = taken;
+    while let Some((byte, behind)) = next_bare(rest) {
+        match left {
+            [first, further @ ..] if *first == byte => left = further,
+            _ => return false,
         }
+        rest = behind;
     }
     left.is_empty()
 }
 
-// Whether the first byte is a `-`.
-fn has_minus(bytes: &[u8]) -> bool
-    ensures { result ≡ is_negative bytes.now }
+// The first byte outside blanks and comments, and what follows it; none at the first dot, where that is the end.
+fn next_in(bytes: &[u8], until_dot: bool) -> Option<(u8, &[u8])>
+    ensures value { MatchOption result (part until_dot (bare bytes.now) ≡ []) (λ next. part until_dot (bare bytes.now) ≡ next.0 ∷ part until_dot (bare next.1.now)) }
+    ensures shorter { IfSome result (λ next. length next.1.now < length bytes.now) }
 {
-    match bytes {
-        [] => false,
-        [first, ..] => *first == b'-',
+    match next_bare(bytes) {
+        Some((byte, behind)) => {
+            if until_dot && byte == b'.' {
+                None
+            } else {
+                Some((byte, behind))
+            }
+        }
+        None => None,
     }
 }
 
-// What stands behind a `-`, if one is the first byte.
-#[tactic(auto, using(crate::proofs::Numbers::unsigned_is))]
-fn behind_minus(bytes: &[u8]) -> &[u8]
-    ensures { result.now ≡ unsigned bytes.now }
+// What stands behind a `-`, if it is the first byte outside blanks and comments.
+fn behind_minus(bytes: &[u8], until_dot: bool) -> Option<&[u8]>
+    ensures { MatchOption result (is_negative (part until_dot (bare bytes.now)) ≡ false) (λ behind. part until_dot (bare bytes.now) ≡ 45 ∷ part until_dot (bare behind.now)) }
 {
-    if has_minus(bytes) { &bytes[1..] } else { bytes }
+    match next_in(bytes, until_dot) {
+        Some((byte, behind)) => { if byte == b'-' { Some(behind) } else { None } }
+        None => None,
+    }
+}
+
+// The whole number, in all of the bytes or up to the first dot.
+fn number_of(taken: &[u8], until_dot: bool) -> Option<i128>
+    ensures { result ≡ number (part until_dot (bare taken.now)) }
+{
+    match behind_minus(taken, until_dot) {
+        Some(digits) => sized_number(true, magnitude(digits, until_dot)),
+        None => sized_number(false, magnitude(taken, until_dot)),
+    }
+}
+
+// The number of this size, or its negative; None where there is no size.
+fn sized_number(is_negative: bool, size: Option<u128>) -> Option<i128>
+    ensures { result ≡ at_some size (λ n. fitting 127 (if is_negative then neg_ℤ (pos n) else pos n)) }
+{
+    match size {
+        Some(size) => signed(is_negative, size),
+        None => None,
+    }
 }
 
 // The number of this size, or its negative; None where it is below -2^127 or above 2^127 - 1.
 #[tactic(auto, using(crate::proofs::Numbers::fitting_is))]
 fn signed(is_negative: bool, size: u128) -> Option<i128>
-    ensures { result ≡ fitting (if is_negative then neg_ℤ (pos size) else pos size) }
+    ensures { result ≡ fitting 127 (if is_negative then neg_ℤ (pos size) else pos size) }
 {
     if is_negative {
         0i128.checked_sub_unsigned(size)
@@ -184,30 +229,28 @@ fn signed(is_negative: bool, size: u128) -> Option<i128>
     }
 }
 
-// The number that the digits outside blanks spell; None where they are none, where another byte stands among them,
-// and from 2^128 on.
-fn magnitude(digits: &[u8]) -> Option<u128>
-    ensures { result ≡ sized (bare digits.now) }
+// The number that the digits spell; None where they are none, where another byte stands among them, and from 2^128 on.
+#[tactic(auto, using(crate::proofs::Numbers::sized_is))]
+fn magnitude(digits: &[u8], until_dot: bool) -> Option<u128>
+    ensures { result ≡ natural 128 (part until_dot (bare digits.now)) }
 {
-    let rest = behind_blanks(digits);
-    if rest.is_empty() {
-        None
-    } else {
-        with_digits(rest)
+    match next_in(digits, until_dot) {
+        Some(_) => with_digits(digits, until_dot),
+        None => None,
     }
 }
 
-fn with_digits(digits: &[u8]) -> Option<u128>
-    ensures { result ≡ lengthened_by (bare digits.now) 0 }
+fn with_digits(digits: &[u8], until_dot: bool) -> Option<u128>
+    ensures { result ≡ lengthened_by (part until_dot (bare digits.now)) 0 }
 {
     let mut value = 0;
-    for digit in digits {
-        if !is_blank(*digit) {
-            match with_digit(value, *digit) {
-                Some(longer) => value = longer,
-                None => return None,
-            }
+    let mut rest = digits;
+    while let Some((digit, behind)) = next_in(rest, until_dot) {
+        match with_digit(value, digit) {
+            Some(longer) => value = longer,
+            None => return None,
         }
+        rest = behind;
     }
     Some(value)
 }
@@ -226,14 +269,13 @@ fn with_digit(value: u128, digit: u8) -> Option<u128>
     }
 }
 
-// Whether the bytes outside blanks are a number, `..`, and a number that is no smaller.
-#[tactic(auto, using(crate::proofs::Bare::range_is))]
+// Whether the bytes outside blanks and comments are a number, `..`, and a number that is no smaller.
 fn is_ordered(taken: &[u8]) -> bool
     ensures { result ≡ is_range (bare taken.now) }
 {
-    let (first, rest) = parted(taken);
-    let (between, second) = parted(rest);
-    is_at_most(whole_number(first), whole_number(second)) && is_all_blank(between)
+    let rest = behind_first_dot(taken);
+    is_at_most(number_of(taken, true), whole_number(behind_first_dot(rest)))
+        && next_in(rest, true).is_none()
 }
 
 fn is_at_most(low: Option<i128>, high: Option<i128>) -> bool
@@ -248,27 +290,16 @@ fn is_at_most(low: Option<i128>, high: Option<i128>) -> bool
     }
 }
 
-#[tactic(auto, using(crate::proofs::Bare::empty_is))]
-fn is_all_blank(bytes: &[u8]) -> bool
-    ensures { result ≡ is_empty (bare bytes.now) }
+// What follows the first dot outside comments; nothing where there is none.
+fn behind_first_dot(bytes: &[u8]) -> &[u8]
+    ensures { bare result.now ≡ behind_dot (bare bytes.now) }
 {
-    behind_blanks(bytes).is_empty()
-}
-
-// The bytes before the first dot, and those behind it: all and none where there is no dot.
-#[tactic(auto, using(crate::proofs::Bare::parts_at, crate::proofs::Bare::parts_none))]
-fn parted(bytes: &[u8]) -> (&[u8], &[u8])
-    ensures before { result.0.now ≡ before_dot bytes.now }
-    ensures behind { result.1.now ≡ behind_dot bytes.now }
-{
-    match first_dot(bytes) {
-        Some(at) => (&bytes[..at], &bytes[at + 1..]),
-        None => (bytes, &bytes[bytes.len()..]),
+    let mut rest = bytes;
+    while let Some((byte, behind)) = next_bare(rest) {
+        if byte == b'.' {
+            return behind;
+        }
+        rest = behind;
     }
-}
-
-fn first_dot(bytes: &[u8]) -> Option<usize>
-    ensures { result ≡ position (λ b. nat_eq b 46) bytes.now }
-{
-    bytes.iter().position(|byte| *byte == b'.')
+    rest
 }

@@ -8,20 +8,26 @@
 mod derive;
 mod expression;
 mod first;
+mod forms;
+mod gaps;
 mod grammar;
 mod guards;
 mod lexical;
+mod lexical_rules;
 pub mod names;
 mod node;
+mod rule_names;
 mod rules;
 mod run;
+mod whole;
 
 pub use expression::{ByteClass, Expression, Guard, Sight};
 pub use grammar::{Grammar, rule_expression};
-pub use guards::{ASN1_KEYWORDS, is_keyword, whole_number};
+pub use guards::{ASN1_KEYWORDS, is_keyword, natural_number, whole_number};
 pub use node::Node;
-pub use rules::{RuleId, derive_rule, nodes_stand, one_outcome, one_tree, try_rule};
-pub use run::{MatchFault, Outcome};
+pub use rule_names::reader_rule;
+pub use rules::{RuleId, derive_rule, nodes_stand, one_outcome, one_tree, outcome_of, try_rule};
+pub use run::{MatchFault, Outcome, TooDeep};
 
 #[cfg(test)]
 mod tests;

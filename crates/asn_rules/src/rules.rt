@@ -4,14 +4,15 @@
 
 ghost use Rattle.std.specs.Prelude.{◌≡◌, ◌≤◌, ℕ, List, length};
 ghost use Rattle.asn_rules.specs.Expression.{rule as rule_call};
-ghost use Rattle.asn_rules.specs.Runs.{Answers, ExactlyOne};
+ghost use Rattle.asn_rules.specs.Runs.{Answers, AnswersInDepth, ExactlyOne};
 ghost use Rattle.asn_rules.specs.Grammar.{rules_of};
+ghost use Rattle.asn_rules.specs.Whole.{whole_rules};
 ghost use Rattle.asn_rules.specs.Derives.{Derivation, Derives, OneTree, Stand};
 
 use crate::derive::{Growth, grow};
 use crate::grammar::{Grammar, rule_expression};
 use crate::node::Node;
-use crate::run::{MatchFault, Outcome, run_rule};
+use crate::run::{MatchFault, Outcome, TooDeep, run_rule};
 use std::alloc::Global;
 
 /// The number of a rule, from 1 to 190.
@@ -33,24 +34,48 @@ impl RuleId {
     }
 }
 
-/// The outcome and the height of the rule at this offset, in bytes from the start of the text, where no more than
-/// `depth` calls lie within each other.
+/// The outcome and the height of the rule of the grammar at this offset, in bytes from the start of the text, where no
+/// more than `depth` calls lie within each other. No memory is taken.
+///
+/// # Errors
+///
+/// `TooDeep` exactly where the height is above `depth`.
+pub fn outcome_of(
+    grammar: Grammar,
+    text: &str,
+    rule: RuleId,
+    offset: usize,
+    depth: usize,
+) -> Result<Outcome, TooDeep>
+    requires { offset ≤ length text.now }
+    ensures { AnswersInDepth (rules_of grammar) text.now (rule_call rule.number) offset depth result }
+{
+    match run_rule(grammar, text.as_bytes(), rule.number, offset, depth) {
+        Ok(outcome) => Ok(outcome),
+        Err(_) => Err(TooDeep),
+    }
+}
+
+/// The outcome and the height of the rule at this offset, in bytes from the start of the text, by the table of the whole
+/// of ASN.1, where no more than `depth` calls lie within each other.
 ///
 /// # Errors
 ///
 /// `TooDeep` exactly where the height is above `depth`. `OutOfMemory` never.
 pub fn try_rule(
     _alloc: Global,
-    grammar: Grammar,
     text: &str,
     rule: RuleId,
     offset: usize,
     depth: usize,
 ) -> Result<Outcome, MatchFault>
     requires { offset ≤ length text.now }
-    ensures { Answers (rules_of grammar) text.now (rule_call rule.number) offset depth result }
+    ensures { Answers whole_rules text.now (rule_call rule.number) offset depth result }
 {
-    run_rule(grammar, text.as_bytes(), rule.number, offset, depth)
+    match outcome_of(Grammar::Whole, text, rule, offset, depth) {
+        Ok(outcome) => Ok(outcome),
+        Err(_) => Err(MatchFault::TooDeep),
+    }
 }
 
 /// The tree of the rule at this offset, in bytes from the start of the text, where no more than `depth` calls lie
@@ -58,7 +83,7 @@ pub fn try_rule(
 ///
 /// # Errors
 ///
-/// `TooDeep` exactly where the height is above `depth`; `OutOfMemory` where a growth was refused.
+/// `TooDeep` exactly where the height is above `depth`, want of memory aside; `OutOfMemory` where a growth was refused.
 pub fn derive_rule(
     alloc: Global,
     grammar: Grammar,

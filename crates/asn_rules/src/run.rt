@@ -32,6 +32,10 @@ pub enum MatchFault {
     OutOfMemory,
 }
 
+/// The height of a try is above the depth that was allowed.
+#[derive(Clone, Copy, Debug, PartialEq, Eq)]
+pub struct TooDeep;
+
 impl Outcome {
     // The outcome with a height of at least this.
     fn raised(self, least: usize) -> Outcome

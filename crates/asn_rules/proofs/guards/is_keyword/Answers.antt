@@ -5,4 +5,4 @@ use Rattle.asn_rules.proofs.guards.is_keyword.Goals as goal
 
 pub returns : goal.returns
 unfolding keywords
-returns c = c.is_one_of.ensures ∙ ap (among keywords) c.behind_blanks.ensures.same
+returns c = c.is_one_of.ensures ∙ ap (among keywords) c.behind_gap.ensures.same

@@ -1,0 +1,81 @@
+//! The forms of a row: the macros and the small expressions of which the tables are made.
+//!
+//! `lexical_rules.rt` and `first.rt` write their rows with these.
+
+use crate::expression::{ByteClass, Expression, Sight};
+use crate::names::SP;
+
+macro_rules! seq {
+    ($a:expr) => { $a };
+    ($a:expr, $($rest:expr),+) => { Expression::Sequence(&$a, &seq!($($rest),+)) };
+}
+
+pub(crate) use seq;
+
+macro_rules! choice {
+    ($a:expr) => { $a };
+    ($a:expr, $($rest:expr),+) => { Expression::Choice(&$a, &choice!($($rest),+)) };
+}
+
+pub(crate) use choice;
+
+macro_rules! bytes {
+    ($text:expr) => { Expression::See(Sight::Bytes($text)) };
+}
+
+pub(crate) use bytes;
+
+macro_rules! word {
+    ($text:expr) => { Expression::See(Sight::Word($text)) };
+}
+
+pub(crate) use word;
+
+macro_rules! symbol {
+    ($text:expr) => { Expression::Sequence(&GAP, &Expression::See(Sight::Bytes($text))) };
+}
+
+pub(crate) use symbol;
+
+macro_rules! keyword {
+    ($text:expr) => { Expression::Sequence(&GAP, &Expression::See(Sight::Word($text))) };
+}
+
+pub(crate) use keyword;
+
+macro_rules! option {
+    ($a:expr) => { Expression::Choice(&$a, &EMPTY) };
+}
+
+pub(crate) use option;
+
+macro_rules! some {
+    ($a:expr) => { Expression::Sequence(&$a, &Expression::Many(&$a)) };
+}
+
+pub(crate) use some;
+
+pub(crate) const BLANKS: Expression = Expression::Call(SP);
+
+// The blanks and comments before a literal: no reader needs them.
+pub(crate) const GAP: Expression = Expression::Skip(SP);
+
+pub(crate) const EMPTY: Expression = Expression::See(Sight::Bytes(b""));
+
+pub(crate) const NONE: Expression = Expression::Not(&EMPTY);
+
+pub(crate) const LETTER: Expression = Expression::See(Sight::OneOf(ByteClass::Letter));
+
+pub(crate) const DIGIT: Expression = Expression::See(Sight::OneOf(ByteClass::Digit));
+
+pub(crate) const ALNUM: Expression = Expression::See(Sight::OneOf(ByteClass::Alnum));
+
+pub(crate) const CAP: Expression = Expression::See(Sight::OneOf(ByteClass::Cap));
+
+pub(crate) const BLANK: Expression = Expression::See(Sight::OneOf(ByteClass::Blank));
+
+pub(crate) const LOWER: Expression = Expression::See(Sight::OneOf(ByteClass::Lower));
+
+pub(crate) const LINE_FEED: Expression = Expression::See(Sight::OneOf(ByteClass::LineFeed));
+
+pub(crate) const ANY: Expression = Expression::See(Sight::OneOf(ByteClass::Any));
