@@ -6,3 +6,5 @@ pub mod Nodes
 pub mod Bare
 pub mod Numbers
 pub mod Places
+pub mod Characters
+pub mod Right

@@ -11,7 +11,7 @@ use Rattle.asn_rules.specs.declared.expression.Guard.{Guard}
 use Rattle.asn_rules.proofs.Theory.{Lies, runs_lies, one_outcome}
 
 -- each end of the expression takes a byte, where each end of the rules in the table does
-abbrev takes_byte : List Bool → Expression → Bool
+abbrev pub takes_byte : List Bool → Expression → Bool
 takes_byte t (see s) = nat_lt 0 (width s)
 takes_byte t (seq a b) = takes_byte t a || takes_byte t b
 takes_byte t (choice a b) = takes_byte t a && takes_byte t b
@@ -38,11 +38,11 @@ checked t ranks (e ∷ es) (b ∷ bs) (k ∷ ks) = (not b || takes_byte t e) && 
 checked t ranks [] [] [] = true
 checked t ranks _ _ _ = false
 
-and_both : (a b : Bool) → (a && b) ≡ true → (a ≡ true) × (b ≡ true)
+pub and_both : (a b : Bool) → (a && b) ≡ true → (a ≡ true) × (b ≡ true)
 and_both true b e = (refl, e)
 and_both false b e = absurd cc
 
-or_either : (a b : Bool) → (a || b) ≡ true → (a ≡ true) ⊎ (b ≡ true)
+pub or_either : (a b : Bool) → (a || b) ≡ true → (a ≡ true) ⊎ (b ≡ true)
 or_either true b e = inl refl
 or_either false b e = inr e
 
@@ -70,7 +70,7 @@ module _ (rules : List Expression) (text : List ℕ) (t : List Bool) (ranks : Li
   row : (r : ℕ) → Right t ranks (rule_of rules r) (get_or t r false) (get_or ranks r 0)
   row = right t ranks rules t ranks fine
 
-  abbrev Moves : ℕ → Ending → Type 0
+  abbrev pub Moves : ℕ → Ending → Type 0
   Moves i (ends j) = i < j
   Moves i fails = Unit {0}
 
@@ -97,7 +97,7 @@ module _ (rules : List Expression) (text : List ℕ) (t : List Bool) (ranks : Li
   moves_second fails i j le lt = tt
 
   -- An expression whose ends each take a byte takes one.
-  moves : {e : Expression} {i k : ℕ} {o : Ending} → Runs rules text e i o k → i ≤ length text → takes_byte t e ≡ true → Moves i o
+  pub moves : {e : Expression} {i k : ℕ} {o : Ending} → Runs rules text e i o k → i ≤ length text → takes_byte t e ≡ true → Moves i o
   moves (sees {s} {i}) le m = see_moves s i m
   moves (seq_ends {a = a} {b = b} {i = i} {j = j} {o = o} p q) le m =
       let l = runs_lies rules text p le in

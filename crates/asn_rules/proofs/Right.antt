@@ -1,0 +1,15 @@
+-- The tables of ranks are right: computed.
+use Rattle.std.proofs.Common.{◌≡◌, refl, true}
+use Rattle.asn_rules.specs.First.{first, further}
+use Rattle.asn_rules.specs.LexicalRules.{lexical_rules_before}
+use Rattle.asn_rules.specs.Whole.{whole_rules}
+use Rattle.asn_rules.proofs.Ranks.{first_takes, first_ranks, whole_takes, whole_ranks}
+use Rattle.asn_rules.proofs.Total.{checked}
+
+pub first_checked : checked first_takes first_ranks first first_takes first_ranks ≡ true
+unfolding first further lexical_rules_before
+first_checked = refl
+
+pub whole_checked : checked whole_takes whole_ranks whole_rules whole_takes whole_ranks ≡ true
+unfolding whole_rules lexical_rules_before
+whole_checked = refl
