@@ -8,3 +8,4 @@ pub mod Errors
 pub mod Fault
 pub mod Until
 pub mod Bits
+pub mod Reads

@@ -12,6 +12,7 @@ mod fault;
 mod input;
 mod markers;
 mod place;
+mod readers;
 mod report;
 #[cfg(test)]
 mod tests;
@@ -27,5 +28,9 @@ pub use errors::{
 pub use fault::{ParseFault, ParserResult};
 pub use input::Input;
 pub use markers::{ExtensionMarker, OptionalMarker, RangeSeperator};
+pub use readers::{
+    assignment, block_comment, comment, identifier, line_comment, title_case_identifier,
+    uppercase_identifier, value_identifier,
+};
 pub use report::{LexerError, LexerErrorType, ReportData};
 pub use until::{take_until_and_not, take_until_or, take_until_unbalanced};
