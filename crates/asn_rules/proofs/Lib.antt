@@ -1,7 +1,6 @@
 pub mod Theory
 pub mod Ranks
 pub mod Total
-pub mod Checked
 pub mod Trees
 pub mod Nodes
 pub mod Bare
@@ -9,3 +8,5 @@ pub mod Numbers
 pub mod Walks
 pub mod Modules
 pub mod Places
+pub mod Characters
+pub mod Right

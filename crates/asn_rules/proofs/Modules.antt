@@ -13,7 +13,7 @@ use Rattle.asn_rules.specs.declared.due.ModulePart.TheVariants.{Name, Definition
 use Rattle.asn_rules.proofs.Theory.{runs_lies}
 use Rattle.asn_rules.proofs.Ranks.{first_takes, first_ranks}
 use Rattle.asn_rules.proofs.Total.{moves}
-use Rattle.asn_rules.proofs.Checked.{first_checked}
+use Rattle.asn_rules.proofs.Right.{first_checked}
 use Rattle.asn_rules.proofs.Walks.{forward}
 
 module _ (text : List ℕ) where
@@ -174,7 +174,7 @@ module _ (text : List ℕ) where
             go (inl x) = let c = of_call x.1 in absurd (maybe_ends (subst (λ e. R e k fails c.0) row_167 c.1))
             go (inr x) =
                 part_goes Assignment _ _ k x.0 x.2 o o' (x.1, x.3, omega (arith, x.5)) x.4 (omega (arith, x.5)) lost (λ k' m' it r' le'.
-                last_goes Begin _ k' k' m' o o' (nothing k') r' le' lost further)
+                last_goes Begin _ k' k' m' o o' (nothing k') r' le' lost after)
 
     module_goes : (i h : ℕ) (o : Ending) → R (rule 189) i o h → h ≤ d → Goes parts i o
     module_goes i h o r le =

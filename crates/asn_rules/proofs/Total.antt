@@ -11,7 +11,7 @@ use Rattle.asn_rules.specs.declared.expression.Guard.{Guard}
 use Rattle.asn_rules.proofs.Theory.{Lies, runs_lies, one_outcome}
 
 -- each end of the expression takes a byte, where each end of the rules in the table does
-abbrev takes_byte : List Bool → Expression → Bool
+abbrev pub takes_byte : List Bool → Expression → Bool
 takes_byte t (see s) = nat_lt 0 (width s)
 takes_byte t (seq a b) = takes_byte t a || takes_byte t b
 takes_byte t (choice a b) = takes_byte t a && takes_byte t b
@@ -38,11 +38,11 @@ checked t ranks (e ∷ es) (b ∷ bs) (k ∷ ks) = (not b || takes_byte t e) && 
 checked t ranks [] [] [] = true
 checked t ranks _ _ _ = false
 
-and_both : (a b : Bool) → (a && b) ≡ true → (a ≡ true) × (b ≡ true)
+pub and_both : (a b : Bool) → (a && b) ≡ true → (a ≡ true) × (b ≡ true)
 and_both true b e = (refl, e)
 and_both false b e = absurd cc
 
-or_either : (a b : Bool) → (a || b) ≡ true → (a ≡ true) ⊎ (b ≡ true)
+pub or_either : (a b : Bool) → (a || b) ≡ true → (a ≡ true) ⊎ (b ≡ true)
 or_either true b e = inl refl
 or_either false b e = inr e
 

@@ -28,7 +28,10 @@ pub use grammar::{Grammar, rule_expression};
 pub use guards::{ASN1_KEYWORDS, is_keyword, natural_number, whole_number};
 pub use node::Node;
 pub use rule_names::reader_rule;
-pub use rules::{RuleId, derive_rule, nodes_stand, one_outcome, one_tree, outcome_of, try_rule};
+pub use rules::{
+    RuleId, derive_rule, ends_at_characters, nodes_stand, one_outcome, one_tree, outcome_of,
+    try_rule,
+};
 pub use run::{MatchFault, Outcome, TooDeep};
 
 #[cfg(test)]

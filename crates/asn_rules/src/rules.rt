@@ -4,7 +4,8 @@
 
 ghost use Rattle.std.specs.Prelude.{◌≡◌, ◌≤◌, ℕ, List, length};
 ghost use Rattle.asn_rules.specs.Expression.{rule as rule_call};
-ghost use Rattle.asn_rules.specs.Runs.{Answers, AnswersInDepth, ExactlyOne};
+ghost use Rattle.std.specs.Str.{IsUtf8, IsCharBoundary};
+ghost use Rattle.asn_rules.specs.Runs.{Answers, AnswersInDepth, ExactlyOne, Runs, ends};
 ghost use Rattle.asn_rules.specs.Grammar.{rules_of};
 ghost use Rattle.asn_rules.specs.Whole.{whole_rules};
 ghost use Rattle.asn_rules.specs.Derives.{Derivation, Derives, OneTree, Stand};
@@ -131,4 +132,9 @@ pub fn one_tree()
 /// The nodes of a tree stand one behind the other, the children of each within it, and all within the text.
 pub fn nodes_stand()
     ensures { (grammar : Grammar) (text : List ℕ) (number i j : ℕ) (nodes : List Node) → i ≤ length text → Derives (rules_of grammar) text (rule_call number) i j nodes → Stand i j nodes × (j ≤ length text) }
+{}
+
+/// A rule that is tried between two characters of a text ends between two characters.
+pub fn ends_at_characters()
+    ensures { (grammar : Grammar) (text : List ℕ) (number i j h : ℕ) → IsUtf8 text → IsCharBoundary text i → Runs (rules_of grammar) text (rule_call number) i (ends j) h → IsCharBoundary text j }
 {}

@@ -8,10 +8,9 @@ use crate::{
 use std::alloc::Global;
 
 // Whether the rule of the grammar stands at the start of the text, and takes all of it.
-fn takes_all(grammar: Grammar, text: &str, number: u8) -> bool {
-    let id = RuleId { number };
+fn takes_all(grammar: Grammar, text: &str, rule: RuleId) -> bool {
     matches!(
-        outcome_of(grammar, text, id, 0, 512),
+        outcome_of(grammar, text, rule, 0, 512),
         Ok(Outcome::End { offset, .. }) if offset == text.len()
     )
 }
@@ -56,7 +55,7 @@ fn takes_whole_modules(rt: HostRuntime) {
         ("M DEFINITIONS ::= BEGIN END /* /* */", false),
     ] {
         assert_eq!(rt;
-            takes_all(Grammar::First, text, ASN_SPEC),
+            takes_all(Grammar::First, text, RuleId { number: ASN_SPEC }),
             want,
             "at {text}"
         );
@@ -76,7 +75,13 @@ fn judges_ranges(rt: HostRuntime) {
         ("6..5", false),
     ] {
         assert_eq!(rt;
-            takes_all(Grammar::First, text, VALUE_RANGE),
+            takes_all(
+                Grammar::First,
+                text,
+                RuleId {
+                    number: VALUE_RANGE
+                }
+            ),
             want,
             "at {text}"
         );
@@ -188,7 +193,7 @@ fn takes_lexical_rules_whole(rt: HostRuntime) {
     ] {
         match reader_rule(name) {
             Some(rule) => assert_eq!(rt;
-                takes_all(Grammar::Whole, text, rule.number),
+                takes_all(Grammar::Whole, text, rule),
                 want,
                 "{name} at {text}"
             ),

@@ -1,2 +1,5 @@
+pub mod Failures
+pub mod Gaps
 pub mod Parts
 pub mod Positions
+pub mod Tries

@@ -12,22 +12,19 @@ rest_of_range xs start n end within =
     ∙ drop-take n (end - (start + n)) (drop start xs)
     ∙ ap (take (end - (start + n))) (drop-drop n start xs))
 
-range_length : (xs : List ℕ) (start n : ℕ) → start + n ≤ length xs → length (slice_range xs start (start + n)) ≡ n
-range_length xs start n within = grind (arith, common_steps)
+-- how long a range is
+pub range_length : (xs : List ℕ) (start end : ℕ) → end ≤ length xs → length (slice_range xs start end) ≡ end - start
+range_length xs start end within = grind (arith, common_steps)
 
 -- a place in a range is a place in the list
-pub range_within : (xs : List ℕ) (start n i : ℕ) → i < length (slice_range xs start (start + n)) → (i < n) × (start + i < length xs)
-range_within xs start n i below = grind (arith, common_steps)
+pub range_within : (xs : List ℕ) (start end i : ℕ) → i < length (slice_range xs start end) → (start + i < end) × (start + i < length xs)
+range_within xs start end i below = grind (arith, common_steps)
 
 -- a byte of a range is a byte of the list
-pub range_byte : (xs : List ℕ) (start n i : ℕ) → i < length (slice_range xs start (start + n)) → get_or (slice_range xs start (start + n)) i 0 ≡ get_or xs (start + i) 0
-range_byte xs start n i below =
-    let inside : i < start + n - start = omega (arith, range_within xs start n i below) in
-    get_or-take (start + n - start) (drop start xs) i 0 inside ∙ get_or-drop start xs i 0
-
--- a walk over a range ends at its length
-pub range_passed : (xs : List ℕ) (start n i : ℕ) → start + n ≤ length xs → i ≤ length (slice_range xs start (start + n)) → length (slice_range xs start (start + n)) ≤ i → i ≡ n
-range_passed xs start n i within below above = omega (arith, range_length xs start n within)
+pub range_byte : (xs : List ℕ) (start end i : ℕ) → i < length (slice_range xs start end) → get_or (slice_range xs start end) i 0 ≡ get_or xs (start + i) 0
+range_byte xs start end i below =
+    let inside : i < end - start = omega (arith, range_within xs start end i below) in
+    get_or-take (end - start) (drop start xs) i 0 inside ∙ get_or-drop start xs i 0
 
 -- a range that has n elements reaches n past its start
 pub range_reach : (xs : List ℕ) (start n end : ℕ) → start ≤ end → n ≤ length (slice_range xs start end) → start + n ≤ end

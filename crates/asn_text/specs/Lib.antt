@@ -1,4 +1,11 @@
+pub mod formers
 pub mod Position
 pub mod Part
 pub mod Input
+pub mod Report
 pub mod Equality
+pub mod Errors
+pub mod Fault
+pub mod Until
+pub mod Bits
+pub mod Reads

@@ -4,6 +4,8 @@ ghost use Rattle.std.specs.Prelude.{◌≡◌, ◌≤◌, length};
 ghost use Rattle.std.specs.Str.{IsCharBoundary};
 ghost use Rattle.asn_text.specs.Position.{line_at, column_at};
 
+use crate::place::{Place, place_after};
+
 /// A part of a source text with its position, and the start of the context that it is read in. Offsets are in bytes
 /// from 0; lines and columns are counted from 1, columns in bytes.
 #[derive(Clone, Copy, Debug)]
@@ -157,22 +159,18 @@ impl<'a> Input<'a> {
         ensures part { part_of result ≡ part_from n (part_of self.now) }
         ensures rest { shown (part_of result) ≡ drop n (shown (part_of self.now)) }
     {
-        let mut line = self.line;
-        let mut column = self.column;
-        for byte in &self.source.as_bytes()[self.offset..self.offset + n] {
-            if *byte == b'\n' {
-                line += 1;
-                column = 1;
-            } else {
-                column += 1;
-            }
-        }
+        let first = Place {
+            line: self.line,
+            column: self.column,
+        };
+        let offset = self.offset + n;
+        let place = place_after(self.source.as_bytes(), first, self.offset, offset);
         Input {
             source: self.source,
-            offset: self.offset + n,
+            offset,
             end: self.end,
-            line,
-            column,
+            line: place.line,
+            column: place.column,
             context_start_line: self.context_start_line,
             context_start_offset: self.context_start_offset,
         }

@@ -4,9 +4,33 @@
 //! crates above speak of places in a text through it; it knows nothing of trees.
 #![tactic(auto)]
 
+mod at_least_one;
+mod bits;
+pub mod constants;
+mod errors;
+mod fault;
 mod input;
+mod markers;
+mod place;
+mod readers;
+mod report;
 #[cfg(test)]
 mod tests;
+mod until;
 
 pub use asn_memory::{Box, List, Mem, OutOfMemory, Text};
+pub use asn_rules::ASN1_KEYWORDS;
+pub use bits::hex_to_bools;
+pub use errors::{
+    Context, ErrorBranches, ErrorKind, ErrorLeaf, ErrorLink, ErrorLinks, ErrorTree, MiscError,
+    NomKind,
+};
+pub use fault::{ParseFault, ParserResult};
 pub use input::Input;
+pub use markers::{ExtensionMarker, OptionalMarker, RangeSeperator};
+pub use readers::{
+    assignment, block_comment, comment, identifier, line_comment, title_case_identifier,
+    uppercase_identifier, value_identifier,
+};
+pub use report::{LexerError, LexerErrorType, ReportData};
+pub use until::{take_until_and_not, take_until_or, take_until_unbalanced};

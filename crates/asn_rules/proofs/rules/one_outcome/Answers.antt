@@ -7,7 +7,7 @@ use Rattle.asn_rules.specs.Runs.{ExactlyOne}
 use Rattle.asn_rules.specs.declared.grammar.Grammar.{Grammar}
 use Rattle.asn_rules.specs.declared.grammar.Grammar.TheVariants.{First, Whole}
 use Rattle.asn_rules.proofs.Ranks.{first_takes, first_ranks, whole_takes, whole_ranks}
-use Rattle.asn_rules.proofs.Checked.{first_checked, whole_checked}
+use Rattle.asn_rules.proofs.Right.{first_checked, whole_checked}
 use Rattle.asn_rules.proofs.Total.{exactly_one}
 use Rattle.asn_rules.proofs.rules.one_outcome.Goals as goal
 

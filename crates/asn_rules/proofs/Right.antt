@@ -1,5 +1,5 @@
--- The tables of ranks are right.
-use Rattle.std.proofs.Common.{◌≡◌, true, refl}
+-- The tables of ranks are right: computed.
+use Rattle.std.proofs.Common.{◌≡◌, refl, true}
 use Rattle.asn_rules.specs.First.{first, further}
 use Rattle.asn_rules.specs.LexicalRules.{lexical_rules_before}
 use Rattle.asn_rules.specs.Whole.{whole_rules}

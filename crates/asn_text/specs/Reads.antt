@@ -1,0 +1,110 @@
+-- What the lexical readers read (X.680 12): a rule of the table is tried where the input begins.
+use Rattle.std.specs.Prelude.{◌≡◌, ℕ, ◌+◌, ◌≤◌, Bool, true, false, ◌||◌, List, codes, take, drop, slice_range, nat_eq, if◌then◌else◌}
+use Rattle.std.specs.List.{starts_with}
+use Rattle.asn_rules.specs.Expression.{Expression, rule, seq, skip, guarded, rule_of, Sight, bytes, word as whole_word}
+use Rattle.asn_rules.specs.Guards.{allows}
+use Rattle.asn_rules.specs.Lexical.{stands, width}
+use Rattle.asn_rules.specs.Runs.{Ending, ends, fails, Runs, Exceeds}
+use Rattle.asn_rules.specs.Whole.{whole_rules}
+use Rattle.asn_text.specs.Part.{Part, shown, part_from}
+use Rattle.asn_text.specs.Input.{part_of}
+use Rattle.asn_text.specs.Fault.{IsNamedLeaf}
+use Rattle.asn_text.specs.declared.input.Input.{Input}
+use Rattle.asn_text.specs.declared.errors.ErrorTree.{out-ErrorTree}
+use Rattle.asn_text.specs.declared.fault.ParseFault.{ParseFault}
+use Rattle.asn_text.specs.declared.fault.ParseFault.TheVariants.{Fail, TooDeep, OutOfMemory}
+
+-- The rule at the start of the text comes to the ending with the height.
+abbrev pub Tries : List ℕ → ℕ → Ending → ℕ → Type 0
+Tries text number ending height = Runs whole_rules text (rule number) 0 ending height
+
+-- The rule ends there, with a height that is at most the depth.
+abbrev pub EndsAt : List ℕ → ℕ → ℕ → ℕ → Type 0
+EndsAt text number depth place = (height : ℕ) × (Tries text number (ends place) height × (height ≤ depth))
+
+-- The rule fails, with a height that is at most the depth.
+abbrev pub FailsIn : List ℕ → ℕ → ℕ → Type 0
+FailsIn text number depth = (height : ℕ) × (Tries text number fails height × (height ≤ depth))
+
+-- The height of the rule exceeds the depth.
+abbrev pub IsTooDeep : List ℕ → ℕ → ℕ → Type 0
+IsTooDeep text number depth = Exceeds whole_rules text (rule number) 0 depth
+
+-- A fault of the reader of this rule: too deep exactly where the height exceeds the depth, a failure exactly where the
+-- height is at most the depth and the rule fails, and never want of memory.
+abbrev pub IsFaultOf : ℕ → List ℕ → Input → ℕ → ParseFault → Type 0
+IsFaultOf number name input depth (Fail tree) = FailsIn (shown (part_of input)) number depth × IsNamedLeaf input name (out-ErrorTree tree)
+IsFaultOf number name input depth TooDeep = IsTooDeep (shown (part_of input)) number depth
+IsFaultOf number name input depth OutOfMemory = ⊥
+
+-- A reader of the rule over the part: the rule ends at a place, the rest begins there, and what is read is made of it.
+pub record Reads (number depth : ℕ) (part rest : Part) (made : ℕ → Type 0) : Type 0 where
+  pub place : ℕ
+  pub ends_at : EndsAt (shown part) number depth place
+  pub rest_is : rest ≡ part_from place part
+  pub made_is : made place
+
+-- the bytes up to the rule's end, without the blanks and comments before them
+abbrev pub IsItem : List ℕ → List ℕ → ℕ → Type 0
+IsItem text item place = (start height : ℕ) × (Tries text 1 (ends start) height × (item ≡ slice_range text start place))
+
+-- the bytes between the marks of a comment, where this rule ends that is tried behind the first mark
+abbrev pub IsBody : ℕ → List ℕ → List ℕ → Type 0
+IsBody number text body = (place height : ℕ) × (Runs whole_rules text (rule number) 2 (ends place) height × (body ≡ slice_range text 2 place))
+
+-- the rule of what stands within a block comment, or else within a line comment
+abbrev pub body_rule : List ℕ → ℕ
+body_rule text = if starts_with nat_eq text (codes "/*") then 4 else 6
+
+-- The rule begins with blanks and comments.
+abbrev pub skips_gap : Expression → Bool
+skips_gap (seq (rule number) rest) = nat_eq number 1
+skips_gap (seq (skip number) rest) = nat_eq number 1
+skips_gap (guarded (seq (rule number) rest) guard) = nat_eq number 1
+skips_gap expression = false
+
+-- The three rules of comments.
+abbrev pub is_comment : ℕ → Bool
+is_comment number = nat_eq number 2 || nat_eq number 3 || nat_eq number 5
+
+-- A rule ends at a place, with a height that is at most the depth, and not behind the end.
+pub record HasPart (text : List ℕ) (number offset depth end : ℕ) : Type 0 where
+  pub place : ℕ
+  pub height : ℕ
+  pub run : Runs whole_rules text (rule number) offset (ends place) height
+  pub in_depth : height ≤ depth
+  pub from : offset ≤ place
+  pub before : place ≤ end
+
+-- the guard of a rule lets pass what was taken
+abbrev pub passes : Expression → List ℕ → Bool
+passes (guarded expression guard) taken = allows guard taken
+passes expression taken = true
+
+-- the bytes up to the rule's end, which its guard lets pass
+pub record IsTaken (text : List ℕ) (number : ℕ) (taken : List ℕ) (place : ℕ) : Type 0 where
+  pub taken_is : taken ≡ take place text
+  pub passes_guard : passes (rule_of whole_rules number) taken ≡ true
+
+-- What is looked for stands behind the blanks and comments, and is read.
+pub record Finds (sought : Sight) (depth : ℕ) (part rest : Part) (found : List ℕ) : Type 0 where
+  pub place : ℕ
+  pub gap_ends : EndsAt (shown part) 1 depth place
+  pub stands_there : stands sought (drop place (shown part)) ≡ true
+  pub rest_is : rest ≡ part_from (place + width sought) part
+  pub found_is : found ≡ slice_range (shown part) place (place + width sought)
+
+-- What is looked for does not stand behind the blanks and comments.
+abbrev pub Misses : Sight → List ℕ → ℕ → Type 0
+Misses sought text depth = (place : ℕ) × (EndsAt text 1 depth place × (stands sought (drop place text) ≡ false))
+
+-- A fault of looking behind the blanks and comments: too deep exactly where their height exceeds the depth, a failure
+-- exactly where it does not and nothing is found, and never want of memory.
+abbrev pub IsFaultOfFinding : Sight → List ℕ → Input → ℕ → ParseFault → Type 0
+IsFaultOfFinding sought name input depth (Fail tree) = Misses sought (shown (part_of input)) depth × IsNamedLeaf input name (out-ErrorTree tree)
+IsFaultOfFinding sought name input depth TooDeep = IsTooDeep (shown (part_of input)) 1 depth
+IsFaultOfFinding sought name input depth OutOfMemory = ⊥
+
+-- a whole word, or these bytes
+abbrev pub sight_of : Bool → List ℕ → Sight
+sight_of is_word text = if is_word then whole_word text else bytes text

@@ -1,0 +1,1 @@
+pub mod at_least_one
