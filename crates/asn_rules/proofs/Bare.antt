@@ -1,10 +1,10 @@
 -- Bytes outside blanks and comments, as the code finds them.
-use Rattle.std.proofs.Common.{◌≡◌, ℕ, zero, suc, ◌+◌, ◌<◌, List, length, get_or, arith, [], ◌∷◌, Bool, true, false, not, cond, drop, refl, sym, ap, ◌∙◌, codes}
+use Rattle.std.proofs.Common.{◌≡◌, ℕ, suc, ◌<◌, List, length, get_or, arith, [], ◌∷◌, Bool, true, false, not, cond, drop, refl, ap, ◌∙◌, codes}
 use Rattle.std.specs.Prelude.{nat_eq, ◌&&◌, ◌||◌, if◌then◌else◌}
 use Rattle.asn_rules.specs.Lexical.{in_class, first_in, is_blank}
 use Rattle.asn_rules.specs.declared.expression.ByteClass.TheVariants.{Blank, LineFeed}
 use Rattle.asn_rules.specs.declared.expression.ByteClass.{ByteClass}
-use Rattle.asn_rules.specs.Guards.{Place, within, in_line, half, begins, onward, is_outside, bare_from, bare}
+use Rattle.asn_rules.specs.Guards.{Place, within, in_line, half, begins, onward, is_outside, bare_from}
 use Rattle.asn_rules.specs.Sizes.{starts_bare}
 
 -- A mark of two bytes leads to a place.

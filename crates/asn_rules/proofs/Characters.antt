@@ -1,13 +1,13 @@
 -- In a text of characters, what begins between two characters ends between two.
-use Rattle.std.proofs.Common.{◌≡◌, ℕ, zero, suc, ◌+◌, ◌<◌, ◌≤◌, List, [], ◌∷◌, Bool, true, false, length, get_or, drop, refl, sym, ap, ◌∙◌, subst, arith, ◌⊎◌, inl, inr}
-use Rattle.std.specs.Prelude.{nat_eq, nat_lt, ◌&&◌, ◌||◌, not, if◌then◌else◌, slice_range}
+use Rattle.std.proofs.Common.{◌≡◌, ℕ, zero, suc, ◌+◌, ◌<◌, ◌≤◌, List, [], ◌∷◌, Bool, true, false, length, get_or, drop, refl, sym, ap, subst, arith, ◌⊎◌, inl, inr}
+use Rattle.std.specs.Prelude.{nat_eq, nat_lt, ◌&&◌, ◌||◌, if◌then◌else◌, slice_range}
 use Rattle.std.specs.List.{starts_with, list_all}
 use Rattle.std.specs.Str.{IsUtf8, IsCharBoundary}
 use Rattle.std.proofs.Math.Seq.{drop-cons}
 use Rattle.std.proofs.lemmas.List.{drop_all}
 use Rattle.std.proofs.lemmas.Str.{IsCharBoundary-end, IsCharBoundary-before_ascii, IsCharBoundary-after_ascii}
 use Rattle.std.proofs.lemmas.Bool.{cases_lt}
-use Rattle.std.proofs.lemmas.Bool.Decides.{Decides-ltb, Decides-eqb, nat_tests}
+use Rattle.std.proofs.lemmas.Bool.Decides.{nat_tests}
 use Rattle.asn_rules.specs.Expression.{Expression, see, seq, choice, many, never, guarded, rule, skip, Sight, bytes, word, one_of, rule_of}
 use Rattle.asn_rules.specs.Lexical.{in_class, first_in, stands, width, word_ends}
 use Rattle.asn_rules.specs.Guards.{allows}

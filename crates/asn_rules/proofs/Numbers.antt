@@ -1,6 +1,6 @@
 -- Whole numbers, as the code reads them.
-use Rattle.std.proofs.Common.{◌≡◌, ℕ, zero, suc, ◌+◌, ◌-◌, ◌*◌, ◌^◌, ◌<◌, ◌≤◌, List, [], ◌∷◌, Bool, true, false, cond, Option, Some, None, drop, refl, sym, ap, ◌∙◌, arith, ℤ, pos, negsuc}
-use Rattle.std.specs.Prelude.{nat_eq, nat_lt, nat_le, ◌&&◌, if◌then◌else◌, fold, neg_ℤ, FitsSigned, SomeIff}
+use Rattle.std.proofs.Common.{◌≡◌, ℕ, zero, suc, ◌+◌, ◌-◌, ◌*◌, ◌^◌, ◌<◌, ◌≤◌, List, [], ◌∷◌, Bool, true, false, Option, Some, None, refl, sym, ap, ◌∙◌, arith, ℤ, pos, negsuc}
+use Rattle.std.specs.Prelude.{nat_lt, nat_le, ◌&&◌, if◌then◌else◌, fold, neg_ℤ, FitsSigned, SomeIff}
 use Rattle.std.specs.List.{list_all}
 use Rattle.std.proofs.lemmas.Bool.Decides.{Decides-ltb, nat_tests}
 use Rattle.std.specs.Int.{w128}

@@ -1,9 +1,8 @@
 -- Where a name stands in a list of names.
-use Rattle.std.proofs.Common.{◌≡◌, ◌+◌, ◌<◌, ℕ, suc, List, [], ◌∷◌, Bool, true, false, not, cond, Option, Some, None, length, map, refl, sym, ap, ◌∙◌, subst, arith}
+use Rattle.std.proofs.Common.{◌≡◌, ◌+◌, ℕ, suc, List, [], ◌∷◌, Bool, not, cond, Option, Some, None, length, map, refl, sym, ap, ◌∙◌}
 use Rattle.std.specs.Prelude.{position, bytes_eq, nat_lt}
 use Rattle.std.specs.List.{position_or_len}
 use Rattle.std.specs.Option.{option_map}
-use Rattle.std.proofs.lemmas.Bool.Decides.{Decides-ltb}
 use Rattle.asn_rules.specs.RuleNames.{rule_names, rule_named}
 
 how_many : length rule_names ≡ 190

@@ -1,7 +1,7 @@
 -- Numbers, read digit by digit, and bytes outside blanks and comments, found one by one. Only private contracts cite these.
-use Rattle.std.specs.Prelude.{ℕ, zero, ◌+◌, ◌*◌, ◌-◌, ◌^◌, List, [], ◌∷◌, Bool, true, false, ◌&&◌, nat_lt, Option, Some, None, if◌then◌else◌, ℤ}
+use Rattle.std.specs.Prelude.{ℕ, ◌+◌, ◌*◌, ◌-◌, ◌^◌, List, [], ◌∷◌, Bool, true, false, ◌&&◌, nat_lt, Option, Some, None, if◌then◌else◌, ℤ}
 use Rattle.asn_rules.specs.Lexical.{is_digit}
-use Rattle.asn_rules.specs.Guards.{within, is_outside, bare, is_empty, before_dot, fitting}
+use Rattle.asn_rules.specs.Guards.{within, is_outside, is_empty, before_dot, fitting}
 
 -- the number with a digit behind it, below 2^128
 abbrev pub lengthened : ℕ → ℕ → Option ℕ

@@ -1,6 +1,5 @@
-use Rattle.std.proofs.Common.{arith, sym, ap, ◌∙◌, length-drop}
+use Rattle.std.proofs.Common.{arith}
 use Rattle.std.proofs.lemmas.Grind.{common_steps}
-use Rattle.asn_rules.specs.Guards.{bare_from, in_line}
 use Rattle.asn_rules.proofs.Bare.{line_goes_on}
 use Rattle.asn_rules.proofs.gaps.behind_line.Goals as goal
 

@@ -1,4 +1,4 @@
-use Rattle.std.proofs.Common.{◌≡◌, ◌+◌, ◌<◌, suc, length, sym, ap, ◌∙◌, arith, Some, None}
+use Rattle.std.proofs.Common.{sym, ap, ◌∙◌, arith, Some, None}
 use Rattle.asn_rules.proofs.Places.{how_many_in, named}
 use Rattle.asn_rules.proofs.rule_names.reader_rule.Goals as goal
 

@@ -1,4 +1,4 @@
-use Rattle.std.proofs.Common.{sym, ap, ◌∙◌, Ok}
+use Rattle.std.proofs.Common.{Ok}
 use Rattle.asn_rules.specs.Expression.{rule}
 use Rattle.asn_rules.specs.Grammar.{rules_of}
 use Rattle.asn_rules.proofs.Theory.{tries, deeper}
