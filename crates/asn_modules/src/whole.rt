@@ -1,38 +1,57 @@
 //! Whole texts: `asn_spec`, which is all that the layer above calls.
 
-ghost use Rattle.asn_modules.specs.Whole.{IsReading};
+ghost use Rattle.asn_modules.specs.Whole.{IsMatchingError, IsReading};
 ghost use Rattle.asn_rules.specs.First.{first};
 ghost use Rattle.asn_rules.specs.Valid.{Fails, IsDeeper, IsValid};
 ghost use Rattle.asn_modules.specs.declared.whole.SpecError.TheVariants as fault;
+ghost use Rattle.asn_text.specs.declared.report.LexerError.{LexerError as OneError};
 ghost use Rattle.asn_tree.specs.declared.definitions.ToplevelDefinition.{ToplevelDefinition as OneDefinition};
 ghost use Rattle.asn_tree.specs.declared.headers.ModuleReference.{ModuleReference as OneHeader};
 ghost use Rattle.std.specs.Prelude.{◌≡◌, ◌≤◌, ℕ, List as Sequence, Err, IfOk};
 
 use crate::modules::read_modules;
-use asn_rules::{Grammar, MatchFault, RuleId, derive_rule, names, one_tree};
+use asn_rules::{Grammar, MatchFault, RuleId, derive_rule, due_place, names, one_tree};
+use asn_text::{LexerError, LexerErrorType, ReportData};
 use asn_tree::Reading;
 use std::alloc::Global;
 
 /// Why a text has no reading.
 #[derive(Clone, Copy, Debug, PartialEq, Eq)]
 pub enum SpecError {
-    /// The text is none of the grammar, at a height within the depth.
-    Matching,
+    /// The text is none of the grammar, at a height within the depth: what is due, and where.
+    Lexer(LexerError),
     /// The height of the text's derivation exceeds the depth.
     TooDeep,
     /// Want of memory.
     OutOfMemory,
 }
 
+/// The error of a text that the grammar fails on: the place where a module lacks a part, and the reason.
+fn matching_error(source: &str, depth: usize) -> LexerError
+    requires { Fails first source.now depth }
+    ensures { IsMatchingError source.now depth result }
+{
+    let due = due_place(source, depth).unwrap();
+    LexerError {
+        kind: LexerErrorType::MatchingError(ReportData::at(
+            source,
+            due.place,
+            due.context(),
+            due.part.reason(),
+        )),
+    }
+}
+
 /// The reading of a whole text (X.680 13.1): its modules in order, where the text is one or more modules by the
 /// grammar and the height of its derivation is at most `depth`.
 ///
-/// Matching comes exactly where the height is at most `depth` and the grammar fails, TooDeep exactly where the
-/// height exceeds `depth`.
+/// Want of memory aside, `Lexer` comes exactly where the height is at most `depth` and the grammar fails, and
+/// `TooDeep` exactly where the height exceeds `depth`. The modules are then gone through in order: the error tells the
+/// first of name, `DEFINITIONS`, `::=`, `BEGIN` and closing that does not stand, and where it is due.
 pub fn asn_spec(alloc: Global, source: &str, depth: usize) -> Result<Reading, SpecError>
     ensures reading { IfOk result (λ r. IsReading source.now r) }
     ensures valid { IfOk result (λ _. IsValid first source.now depth) }
-    ensures matching { result ≡ Err fault.Matching → Fails first source.now depth }
+    ensures matching { (e : OneError) → result ≡ Err (fault.Lexer e) → Fails first source.now depth × IsMatchingError source.now depth e }
     ensures deep { result ≡ Err fault.TooDeep → IsDeeper first source.now depth }
 {
     match derive_rule(
@@ -47,7 +66,7 @@ pub fn asn_spec(alloc: Global, source: &str, depth: usize) -> Result<Reading, Sp
             Ok(reading) => Ok(reading),
             Err(_) => Err(SpecError::OutOfMemory),
         },
-        Ok(None) => Err(SpecError::Matching),
+        Ok(None) => Err(SpecError::Lexer(matching_error(source, depth))),
         Err(MatchFault::TooDeep) => Err(SpecError::TooDeep),
         Err(MatchFault::OutOfMemory) => Err(SpecError::OutOfMemory),
     }
