@@ -3,3 +3,4 @@ pub mod Plain
 pub mod Validity
 pub mod Given
 pub mod Taken
+pub mod Spelled

@@ -6,6 +6,7 @@ pub mod Standard
 pub mod Status
 pub mod Sure
 pub mod Taking
+pub mod Words
 pub mod Run
 pub mod Due
 pub mod Headline

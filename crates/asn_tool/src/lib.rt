@@ -1,7 +1,8 @@
 //! The program: the words, the source and the sink, and `run`, which takes a text from the one to the other.
 //!
 //! The topmost room. One module for each side of the outside: `source` and `sink` are what a run is given, `sure` and
-//! `standard` are such things, `taking` and `giving` are the two loops over them; `judging` is what stands between.
+//! `standard` are such things, `taking` and `giving` are the two loops over them; `judging` is what stands
+//! between, with `words` before it and `status` behind.
 #![tactic(auto)]
 
 mod ended;

@@ -1,10 +1,12 @@
 //! Each public call once, and the outside failing in mid-stream.
 
+use crate::words::depth_of;
 use crate::{
     LIMIT, Sink, SinkFailed, Source, SourceFailed, Status, StdSink, StdSource, SureSink,
     SureSource, TakeFault, error_line, give_all, take_text,
 };
 use std::alloc::{AllocError, Global};
+use std::string::ToString;
 use std::test::Fail;
 
 // A source that gives one byte and then fails.
@@ -148,5 +150,62 @@ fn statuses_have_their_numbers_and_lines(rt: HostRuntime) -> Result<(), Fail> {
     assert_eq!(rt; Status::Usage.number(), 8);
     assert_eq!(rt; error_line(Status::Usage), Some("error usage\n"));
     assert_eq!(rt; error_line(Status::Clean), None);
+    Ok(())
+}
+
+fn strings(alloc: Global, words: &[&str]) -> Result<Vec<String>, AllocError> {
+    let mut strings = Vec::new(alloc);
+    for word in words {
+        strings.push(word.to_string(alloc)?)?;
+    }
+    Ok(strings)
+}
+
+#[test]
+fn words_ask_for_a_depth(rt: HostRuntime) -> Result<(), Fail> {
+    let alloc = rt.alloc();
+    let asking: [(&[&str], Option<usize>); 5] = [
+        (&["link"], Some(512)),
+        (&["link", "--depth", "1"], Some(1)),
+        (&["link", "--depth", "1000"], Some(1000)),
+        (&["link", "--depth", "2000"], Some(2000)),
+        (&[], None),
+    ];
+    for (words, want) in asking {
+        let words = strings(alloc, words)?;
+        assert_eq!(rt; depth_of(words.as_slice()), want);
+    }
+    Ok(())
+}
+
+#[test]
+fn a_depth_has_one_spelling(rt: HostRuntime) -> Result<(), Fail> {
+    let alloc = rt.alloc();
+    for number in [
+        "",
+        "0",
+        "007",
+        "+5",
+        "-5",
+        " 5",
+        "5.",
+        "2001",
+        "18446744073709551617",
+        "100000000000000000000000000000000000000005",
+    ] {
+        let words = strings(alloc, &["link", "--depth", number])?;
+        assert_eq!(rt; depth_of(words.as_slice()), None, "{number}");
+    }
+    let other: [&[&str]; 5] = [
+        &["sample", "5"],
+        &["link", "--depth"],
+        &["link", "--depth=5"],
+        &["link", "--depth", "5", "5"],
+        &["--depth", "5", "link"],
+    ];
+    for words in other {
+        let words = strings(alloc, words)?;
+        assert_eq!(rt; depth_of(words.as_slice()), None);
+    }
     Ok(())
 }
