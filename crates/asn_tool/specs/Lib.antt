@@ -1,5 +1,6 @@
 pub mod Faults
 pub mod Giving
+pub mod Lines
 pub mod Sink
 pub mod Source
 pub mod Standard

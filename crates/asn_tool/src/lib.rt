@@ -2,12 +2,13 @@
 //!
 //! The topmost room. One module for each side of the outside: `source` and `sink` are what a run is given, `sure` and
 //! `standard` are such things, `taking` and `giving` are the two loops over them; `judging` is what stands
-//! between, with `words` before it and `status` behind.
+//! between, with `words` before it and `lines` and `status` behind.
 #![tactic(auto)]
 
 mod ended;
 mod giving;
 mod judging;
+mod lines;
 mod running;
 mod sink;
 mod source;
@@ -20,6 +21,7 @@ mod words;
 pub use ended::Ended;
 pub use giving::give_all;
 pub use judging::LONGEST;
+pub use lines::{depth_line, matching_line};
 pub use running::run;
 pub use sink::{Sink, SinkFailed};
 pub use source::{Source, SourceFailed};

@@ -3,7 +3,7 @@
 use crate::words::depth_of;
 use crate::{
     LIMIT, Sink, SinkFailed, Source, SourceFailed, Status, StdSink, StdSource, SureSink,
-    SureSource, TakeFault, error_line, give_all, take_text,
+    SureSource, TakeFault, depth_line, error_line, give_all, matching_line, take_text,
 };
 use std::alloc::{AllocError, Global};
 use std::string::ToString;
@@ -207,5 +207,15 @@ fn a_depth_has_one_spelling(rt: HostRuntime) -> Result<(), Fail> {
         let words = strings(alloc, words)?;
         assert_eq!(rt; depth_of(words.as_slice()), None);
     }
+    Ok(())
+}
+
+#[test]
+fn lines_tell_their_numbers(rt: HostRuntime) -> Result<(), Fail> {
+    let alloc = rt.alloc();
+    let matching = matching_line(alloc, 12, 1).expect(&rt, "a line");
+    assert_eq!(rt; matching.as_str(), "error matching line 12 column 1\n");
+    let deep = depth_line(alloc, 100).expect(&rt, "a line");
+    assert_eq!(rt; deep.as_str(), "error depth 100\n");
     Ok(())
 }
