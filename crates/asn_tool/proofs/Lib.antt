@@ -4,3 +4,4 @@ pub mod Validity
 pub mod Given
 pub mod Taken
 pub mod Spelled
+pub mod Kept

@@ -1,6 +1,7 @@
 pub mod Faults
 pub mod Giving
 pub mod Lines
+pub mod Listed
 pub mod Sink
 pub mod Source
 pub mod Standard

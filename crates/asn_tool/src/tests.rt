@@ -2,8 +2,9 @@
 
 use crate::words::depth_of;
 use crate::{
-    LIMIT, Sink, SinkFailed, Source, SourceFailed, Status, StdSink, StdSource, SureSink,
-    SureSource, TakeFault, depth_line, error_line, give_all, matching_line, take_text,
+    LIMIT, ListSink, ListSource, Sink, SinkFailed, Source, SourceFailed, Status, StdSink,
+    StdSource, SureSink, SureSource, TakeFault, depth_line, error_line, give_all, matching_line,
+    take_text,
 };
 use std::alloc::{AllocError, Global};
 use std::string::ToString;
@@ -217,5 +218,49 @@ fn lines_tell_their_numbers(rt: HostRuntime) -> Result<(), Fail> {
     assert_eq!(rt; matching.as_str(), "error matching line 12 column 1\n");
     let deep = depth_line(alloc, 100).expect(&rt, "a line");
     assert_eq!(rt; deep.as_str(), "error depth 100\n");
+    Ok(())
+}
+
+#[test]
+fn a_listed_read_fails_and_loses_nothing(rt: HostRuntime) -> Result<(), Fail> {
+    let mut source = ListSource::new(b"abcde", 2, &[2]);
+    let mut piece = [0; 4];
+    assert_eq!(rt; source.read(&mut piece), Ok(2));
+    assert_eq!(rt; piece, *b"ab\0\0");
+    assert_eq!(rt; source.read(&mut piece), Err(SourceFailed));
+    assert_eq!(rt; source.read(&mut piece), Ok(2));
+    assert_eq!(rt; piece, *b"cd\0\0");
+    assert_eq!(rt; source.read(&mut piece), Ok(1));
+    assert_eq!(rt; source.read(&mut piece), Ok(0));
+    assert_eq!(rt; piece, *b"ed\0\0");
+    Ok(())
+}
+
+#[test]
+fn a_text_in_pieces_is_taken_whole(rt: HostRuntime) -> Result<(), Fail> {
+    let alloc = rt.alloc();
+    let mut source = ListSource::new(b"abcde", 2, &[]);
+    let taken = take_text(alloc, &mut source).expect(&rt, "a text");
+    assert_eq!(rt; taken.as_slice(), b"abcde".as_slice());
+    let failed = take_text(alloc, &mut ListSource::new(b"abcde", 2, &[4])).err();
+    assert_eq!(rt; failed, Some(TakeFault::Failed));
+    Ok(())
+}
+
+#[test]
+fn a_full_sink_fails(rt: HostRuntime) -> Result<(), Fail> {
+    let mut sink = ListSink::new(rt.alloc(), 3, 2, &[]).expect(&rt, "room");
+    assert_eq!(rt; give_all(&mut sink, b"type"), Err(SinkFailed));
+    assert_eq!(rt; sink.bytes(), b"typ".as_slice());
+    Ok(())
+}
+
+#[test]
+fn a_listed_write_fails_and_takes_nothing(rt: HostRuntime) -> Result<(), Fail> {
+    let mut sink = ListSink::new(rt.alloc(), 9, 1, &[2]).expect(&rt, "room");
+    assert_eq!(rt; give_all(&mut sink, b"type"), Err(SinkFailed));
+    assert_eq!(rt; sink.bytes(), b"t".as_slice());
+    assert_eq!(rt; give_all(&mut sink, b"ype"), Ok(()));
+    assert_eq!(rt; sink.bytes(), b"type".as_slice());
     Ok(())
 }
