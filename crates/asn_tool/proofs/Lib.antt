@@ -3,3 +3,5 @@ pub mod Plain
 pub mod Validity
 pub mod Given
 pub mod Taken
+pub mod Spelled
+pub mod Kept

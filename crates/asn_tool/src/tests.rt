@@ -1,10 +1,13 @@
 //! Each public call once, and the outside failing in mid-stream.
 
+use crate::words::depth_of;
 use crate::{
-    LIMIT, Sink, SinkFailed, Source, SourceFailed, Status, StdSink, StdSource, SureSink,
-    SureSource, TakeFault, error_line, give_all, take_text,
+    LIMIT, ListSink, ListSource, Sink, SinkFailed, Source, SourceFailed, Status, StdSink,
+    StdSource, SureSink, SureSource, TakeFault, depth_line, error_line, give_all, matching_line,
+    take_text,
 };
 use std::alloc::{AllocError, Global};
+use std::string::ToString;
 use std::test::Fail;
 
 // A source that gives one byte and then fails.
@@ -148,5 +151,116 @@ fn statuses_have_their_numbers_and_lines(rt: HostRuntime) -> Result<(), Fail> {
     assert_eq!(rt; Status::Usage.number(), 8);
     assert_eq!(rt; error_line(Status::Usage), Some("error usage\n"));
     assert_eq!(rt; error_line(Status::Clean), None);
+    Ok(())
+}
+
+fn strings(alloc: Global, words: &[&str]) -> Result<Vec<String>, AllocError> {
+    let mut strings = Vec::new(alloc);
+    for word in words {
+        strings.push(word.to_string(alloc)?)?;
+    }
+    Ok(strings)
+}
+
+#[test]
+fn words_ask_for_a_depth(rt: HostRuntime) -> Result<(), Fail> {
+    let alloc = rt.alloc();
+    let asking: [(&[&str], Option<usize>); 5] = [
+        (&["link"], Some(512)),
+        (&["link", "--depth", "1"], Some(1)),
+        (&["link", "--depth", "1000"], Some(1000)),
+        (&["link", "--depth", "2000"], Some(2000)),
+        (&[], None),
+    ];
+    for (words, want) in asking {
+        let words = strings(alloc, words)?;
+        assert_eq!(rt; depth_of(words.as_slice()), want);
+    }
+    Ok(())
+}
+
+#[test]
+fn a_depth_has_one_spelling(rt: HostRuntime) -> Result<(), Fail> {
+    let alloc = rt.alloc();
+    for number in [
+        "",
+        "0",
+        "007",
+        "+5",
+        "-5",
+        " 5",
+        "5.",
+        "2001",
+        "18446744073709551617",
+        "100000000000000000000000000000000000000005",
+    ] {
+        let words = strings(alloc, &["link", "--depth", number])?;
+        assert_eq!(rt; depth_of(words.as_slice()), None, "{number}");
+    }
+    let other: [&[&str]; 5] = [
+        &["sample", "5"],
+        &["link", "--depth"],
+        &["link", "--depth=5"],
+        &["link", "--depth", "5", "5"],
+        &["--depth", "5", "link"],
+    ];
+    for words in other {
+        let words = strings(alloc, words)?;
+        assert_eq!(rt; depth_of(words.as_slice()), None);
+    }
+    Ok(())
+}
+
+#[test]
+fn lines_tell_their_numbers(rt: HostRuntime) -> Result<(), Fail> {
+    let alloc = rt.alloc();
+    let matching = matching_line(alloc, 12, 1).expect(&rt, "a line");
+    assert_eq!(rt; matching.as_str(), "error matching line 12 column 1\n");
+    let deep = depth_line(alloc, 100).expect(&rt, "a line");
+    assert_eq!(rt; deep.as_str(), "error depth 100\n");
+    Ok(())
+}
+
+#[test]
+fn a_listed_read_fails_and_loses_nothing(rt: HostRuntime) -> Result<(), Fail> {
+    let mut source = ListSource::new(b"abcde", 2, &[2]);
+    let mut piece = [0; 4];
+    assert_eq!(rt; source.read(&mut piece), Ok(2));
+    assert_eq!(rt; piece, *b"ab\0\0");
+    assert_eq!(rt; source.read(&mut piece), Err(SourceFailed));
+    assert_eq!(rt; source.read(&mut piece), Ok(2));
+    assert_eq!(rt; piece, *b"cd\0\0");
+    assert_eq!(rt; source.read(&mut piece), Ok(1));
+    assert_eq!(rt; source.read(&mut piece), Ok(0));
+    assert_eq!(rt; piece, *b"ed\0\0");
+    Ok(())
+}
+
+#[test]
+fn a_text_in_pieces_is_taken_whole(rt: HostRuntime) -> Result<(), Fail> {
+    let alloc = rt.alloc();
+    let mut source = ListSource::new(b"abcde", 2, &[]);
+    let taken = take_text(alloc, &mut source).expect(&rt, "a text");
+    assert_eq!(rt; taken.as_slice(), b"abcde".as_slice());
+    let failed = take_text(alloc, &mut ListSource::new(b"abcde", 2, &[4])).err();
+    assert_eq!(rt; failed, Some(TakeFault::Failed));
+    Ok(())
+}
+
+#[test]
+fn a_full_sink_fails(rt: HostRuntime) -> Result<(), Fail> {
+    let mut sink = ListSink::new(rt.alloc(), 3, 2, &[]).expect(&rt, "room");
+    assert_eq!(rt; give_all(&mut sink, b"type"), Err(SinkFailed));
+    assert_eq!(rt; sink.bytes(), b"typ".as_slice());
+    Ok(())
+}
+
+#[test]
+fn a_listed_write_fails_and_takes_nothing(rt: HostRuntime) -> Result<(), Fail> {
+    let mut sink = ListSink::new(rt.alloc(), 9, 1, &[2]).expect(&rt, "room");
+    assert_eq!(rt; give_all(&mut sink, b"type"), Err(SinkFailed));
+    assert_eq!(rt; sink.bytes(), b"t".as_slice());
+    assert_eq!(rt; give_all(&mut sink, b"ype"), Ok(()));
+    assert_eq!(rt; sink.bytes(), b"type".as_slice());
     Ok(())
 }
