@@ -18,7 +18,7 @@ use Rattle.asn_modules.specs.Modules.{Module, reading_of}
 abbrev pub IsReading : List ℕ → List Module → Type 0
 IsReading text reading = (j : ℕ) × (n : Node) × Derives first text (rule ASN_SPEC) 0 j (n ∷ []) × (reading ≡ reading_of text n)
 
-abbrev report_of : LexerErrorType → ReportData
+abbrev pub report_of : LexerErrorType → ReportData
 report_of (MatchingError report) = report
 
 -- The text lacks a part of a module, and the error tells where: the first part that does not stand, its place, and why.

@@ -1,6 +1,7 @@
 pub mod Promised
 pub mod Plain
 pub mod Validity
+pub mod Judged
 pub mod Given
 pub mod Taken
 pub mod Spelled

@@ -1,20 +1,28 @@
 -- What the course of a run and the delivery of what it writes promise.
-use Rattle.std.proofs.Common.{◌≡◌, ◌⊎◌, inl, inr, ℕ, List, Option, Some, None, refl, sym, ap, ◌∙◌, subst}
+use Rattle.std.proofs.Common.{◌≡◌, ◌<◌, ◌≤◌, ◌⊎◌, inl, inr, ℕ, List, Option, Some, None, Err, length, refl, sym, ap, ◌∙◌, subst, arith}
 use Rattle.std.specs.Prelude.{IfSome, String}
 use Rattle.std.specs.Global.{Global}
+use Rattle.std.specs.Str.{IsUtf8}
 use Rattle.asn_check.specs.declared.linked.Linked.{Linked}
+use Rattle.asn_check.specs.Linked.{IsLinkedOf}
 use Rattle.asn_modules.specs.Whole.{IsReading}
 use Rattle.asn_names.specs.Definitions.{Module, definitions_of, see, type_of}
 use Rattle.asn_names.specs.Meaning.{IsPlain}
-use Rattle.asn_check.specs.Linked.{IsLinkedOf}
+use Rattle.asn_rules.specs.Expression.{rule}
+use Rattle.asn_rules.specs.First.{first}
+use Rattle.asn_rules.specs.Runs.{Ending, ends, fails, Runs, ExactlyOne}
+use Rattle.asn_rules.specs.Valid.{Fails, IsDeeper, IsValid}
 use Rattle.asn_tool.specs.declared.ended.Ended.{Ended}
 use Rattle.asn_tool.specs.declared.status.Status.{Status}
 use Rattle.asn_tool.specs.declared.status.Status.TheVariants.{Clean, Warned, Matching, TooDeep, NotUtf8, TooLong, ReadFault, WriteFault, Usage, OutOfMemory}
 use Rattle.asn_tool.specs.Faults.{HasCause}
-use Rattle.asn_tool.specs.Headline.{IsListing, MeansWhatIsRead, Prints, Decides, IsNoSplit}
-use Rattle.asn_tool.specs.Run.{IsLink, IsValidText, IsTaken, NoTrees, HasTrees, Course, output, Delivered, Ends}
+use Rattle.asn_tool.specs.Headline.{IsListing, MeansWhatIsRead, Prints, SaysAlone, SaysPlace, Decides}
+use Rattle.asn_tool.specs.Lines.{depth_line}
+use Rattle.asn_tool.specs.Run.{IsTaken, IsTooLong, IsNoUtf8, IsTooDeep, IsUnmatched, IsValidText, NoTrees, HasTrees, TellsPlace, AreKnown, OfTaken, Comes, Course, or_nothing, Delivered, Ends}
 use Rattle.asn_tool.specs.Sink.{Takes}
 use Rattle.asn_tool.specs.Status.{line}
+use Rattle.asn_tool.specs.Taking.{limit}
+use Rattle.asn_tool.specs.Words.{depth_of}
 use Rattle.asn_tool.proofs.Plain.{reading_plain}
 
 -- the status of what was to be written, or that of a write that failed
@@ -40,127 +48,235 @@ means text reading linked reads links name d seen clean free =
     let plain : IsPlain (type_of d) = reading_plain text reads.1 name d (ap (λ r. see (definitions_of r) name) (sym reads.3) ∙ seen) in
     (m.0, m.1, m.3 ∙ plain, m.2)
 
+-- ---- a text is judged in one way
+
+-- what a text is, of the five that the order of the causes tells apart
+data Kind : Type 0 where
+  long : Kind
+  other : Kind
+  deep : Kind
+  unmatched : Kind
+  valid : Kind
+
+module _ (depth : ℕ) (text : List ℕ) where
+  abbrev Is : Kind → Type 0
+  Is long = IsTooLong text
+  Is other = IsNoUtf8 text
+  Is deep = IsTooDeep depth text
+  Is unmatched = IsUnmatched depth text
+  Is valid = IsValidText depth text
+
+  abbrev Short : Type 0
+  Short = length text < limit
+
+  abbrev One : Type 0
+  One = (t : List ℕ) → ExactlyOne first t (rule 190) 0
+
+  not_long : IsTooLong text → Short → ⊥
+  not_long l s = absurd (omega (arith, l, s))
+
+  deep_fails : IsDeeper first text depth → Fails first text depth → ⊥
+  deep_fails d f = absurd (omega (arith, d fails f.0 f.1, f.2))
+
+  deep_valid : IsDeeper first text depth → IsValid first text depth → ⊥
+  deep_valid d v = absurd (omega (arith, d (ends v.0) v.1 v.2, v.3))
+
+  fails_valid : One → Fails first text depth → IsValid first text depth → ⊥
+  fails_valid one f v =
+      let same : ◌≡◌ {A = Ending} fails (ends v.0) = ((one text).only fails (ends v.0) f.0 v.1 f.1 v.2).0 in
+      absurd cc
+
+  -- it is not of two kinds
+  one_kind : One → (k k' : Kind) → Is k → Is k' → k ≡ k'
+  one_kind one long long p q = refl
+  one_kind one long other p q = absurd (not_long p q.short)
+  one_kind one long deep p q = absurd (not_long p q.short)
+  one_kind one long unmatched p q = absurd (not_long p q.short)
+  one_kind one long valid p q = absurd (not_long p q.short)
+  one_kind one other long p q = absurd (not_long q p.short)
+  one_kind one other other p q = refl
+  one_kind one other deep p q = absurd (p.other q.utf8)
+  one_kind one other unmatched p q = absurd (p.other q.utf8)
+  one_kind one other valid p q = absurd (p.other q.utf8)
+  one_kind one deep long p q = absurd (not_long q p.short)
+  one_kind one deep other p q = absurd (q.other p.utf8)
+  one_kind one deep deep p q = refl
+  one_kind one deep unmatched p q = absurd (deep_fails p.deeper q.fails)
+  one_kind one deep valid p q = absurd (deep_valid p.deeper q.matches)
+  one_kind one unmatched long p q = absurd (not_long q p.short)
+  one_kind one unmatched other p q = absurd (q.other p.utf8)
+  one_kind one unmatched deep p q = absurd (deep_fails q.deeper p.fails)
+  one_kind one unmatched unmatched p q = refl
+  one_kind one unmatched valid p q = absurd (fails_valid one p.fails q.matches)
+  one_kind one valid long p q = absurd (not_long q p.short)
+  one_kind one valid other p q = absurd (q.other p.utf8)
+  one_kind one valid deep p q = absurd (deep_valid q.deeper p.matches)
+  one_kind one valid unmatched p q = absurd (fails_valid one q.fails p.matches)
+  one_kind one valid valid p q = refl
+
+  abbrev StatusOf : Kind → Status → Type 0
+  StatusOf long s = s ≡ TooLong
+  StatusOf other s = s ≡ NotUtf8
+  StatusOf deep s = s ≡ TooDeep
+  StatusOf unmatched s = s ≡ Matching
+  StatusOf valid s = IsListing s
+
+  -- the status of a kind decides
+  decided : One → (k : Kind) (s : Status) → Is k → StatusOf k s → Decides depth text s
+  decided one k s p is =
+      record {
+        long = λ q. by long q;
+        utf8 = λ q. by other q;
+        deep = λ q. by deep q;
+        unmatched = λ q. by unmatched q;
+        valid = λ q. by valid q;
+      }
+    where
+      by : (k' : Kind) → Is k' → StatusOf k' s
+      by k' q = subst (λ x. StatusOf x s) (one_kind one k k' p q) is
+
 module _ (words : List (String Global)) (left left' : Option (List ℕ)) (reads reads' : ℕ) (written written' : Option (List ℕ)) (writes writes' : ℕ) (ended : Ended) (e : Ends words left left' reads reads' written written' writes writes' ended) where
   abbrev Goes : Status → Type 0
-  Goes s = Course words left left' reads reads' s ended.reading ended.linked
+  Goes s = Course words left left' reads reads' s ended.reading ended.linked e.out
 
-  result : Came e.due ended.status written (output e.due ended.linked) written' writes writes'
-  result = came e.due ended.status (output e.due ended.linked) written written' writes writes' e.delivered
+  result : Came e.due ended.status written e.out written' writes writes'
+  result = came e.due ended.status e.out written written' writes writes' e.delivered
 
   -- the course under the status that is answered, where that is none of a write
-  went : (s : Status) → ended.status ≡ s → (s ≡ WriteFault → ⊥) → Goes s × Takes written (output s ended.linked) written'
-  went s is other = go result
+  went : (s : Status) → ended.status ≡ s → (s ≡ WriteFault → ⊥) → Goes s × Takes written e.out written'
+  went s is no_write = go result
     where
-      go : Came e.due ended.status written (output e.due ended.linked) written' writes writes' → Goes s × Takes written (output s ended.linked) written'
+      go : Came e.due ended.status written e.out written' writes writes' → Goes s × Takes written e.out written'
       go (inl d) =
           let due : e.due ≡ s = sym d.0 ∙ is in
-          (subst Goes due e.course, subst (λ s. Takes written (output s ended.linked) written') due d.1)
-      go (inr d) = absurd (other (sym is ∙ d.0))
+          (subst Goes due e.course, d.1)
+      go (inr d) = absurd (no_write (sym is ∙ d.0))
 
-  pub usage : ended.status ≡ Usage → IsLink words → ⊥
-  usage is = (went Usage is (λ e. cc)).0.1
+  pub usage : ended.status ≡ Usage → (depth_of words ≡ None) × (left' ≡ left)
+  usage is = let g = (went Usage is (λ e. cc)).0 in (g.1, g.2)
 
-  pub misused : (IsLink words → ⊥) → (ended.status ≡ Usage) ⊎ (ended.status ≡ WriteFault)
-  misused no_link = go result
+  unknown : AreKnown words → depth_of words ≡ None → ⊥
+  unknown known none = let both : ◌≡◌ {A = Option ℕ} (Some known.0) None = sym known.1 ∙ none in absurd cc
+
+  pub misused : depth_of words ≡ None → (ended.status ≡ Usage) ⊎ (ended.status ≡ WriteFault)
+  misused none = go result
     where
       due : (s : Status) → Goes s → s ≡ Usage
-      due Clean g = absurd (no_link g.0)
-      due Warned g = absurd (no_link g.0)
-      due Matching g = absurd (no_link g.0)
-      due TooDeep g = absurd g
-      due NotUtf8 g = absurd g
-      due TooLong g = absurd g
-      due ReadFault g = absurd (no_link g.1)
+      due Clean g = absurd (unknown (g.0, g.1) none)
+      due Warned g = absurd (unknown (g.0, g.1) none)
+      due Matching g = absurd (unknown (g.0, g.1) none)
+      due TooDeep g = absurd (unknown (g.0, g.1) none)
+      due NotUtf8 g = absurd (unknown (g.0, g.1) none)
+      due TooLong g = absurd (unknown (g.0, g.1) none)
+      due ReadFault g = absurd (unknown g.1 none)
       due WriteFault g = absurd g
       due Usage g = refl
-      due OutOfMemory g = absurd (no_link g.1)
+      due OutOfMemory g = absurd (unknown g.1 none)
 
-      go : Came e.due ended.status written (output e.due ended.linked) written' writes writes' → (ended.status ≡ Usage) ⊎ (ended.status ≡ WriteFault)
+      go : Came e.due ended.status written e.out written' writes writes' → (ended.status ≡ Usage) ⊎ (ended.status ≡ WriteFault)
       go (inl d) = inl (d.0 ∙ due e.due e.course)
       go (inr d) = inr d.0
 
-  pub read_fault : ended.status ≡ ReadFault → HasCause reads reads'
-  read_fault is = (went ReadFault is (λ e. cc)).0.2
+  pub read_fault : ended.status ≡ ReadFault → AreKnown words × HasCause reads reads'
+  read_fault is = let g = (went ReadFault is (λ e. cc)).0 in (g.1, g.2)
 
   pub write_fault : ended.status ≡ WriteFault → HasCause writes writes'
   write_fault is = go result
     where
-      go : Came e.due ended.status written (output e.due ended.linked) written' writes writes' → HasCause writes writes'
+      go : Came e.due ended.status written e.out written' writes writes' → HasCause writes writes'
       go (inr d) = d.1
       go (inl d) = absurd (subst Goes (sym d.0 ∙ is) e.course)
 
-  pub matching : ended.status ≡ Matching → (taken : List ℕ) × IsTaken left taken left' × (IsValidText taken → ⊥)
-  matching is = let g = (went Matching is (λ e. cc)).0 in (g.1.0, g.1.1, g.1.2.1)
+  pub too_long : ended.status ≡ TooLong → OfTaken words left left' (λ depth taken. IsTooLong taken)
+  too_long is = let g = (went TooLong is (λ e. cc)).0 in (g.0, g.1, (g.2.0, g.2.1, g.2.2.1))
 
-  prints : (s : Status) → ended.status ≡ s → (r : Option (List Module)) (l : Option Linked) → ended.reading ≡ r → ended.linked ≡ l → (taken : List ℕ) → HasTrees taken s r l → Takes written (output s l) written' → Prints taken written written' ended
-  prints s is None l a b taken h t = absurd h
-  prints s is (Some reading) None a b taken h t = absurd h
-  prints s is (Some reading) (Some linked) a b taken h t =
+  pub not_utf8 : ended.status ≡ NotUtf8 → OfTaken words left left' (λ depth taken. IsNoUtf8 taken)
+  not_utf8 is = let g = (went NotUtf8 is (λ e. cc)).0 in (g.0, g.1, (g.2.0, g.2.1, g.2.2.1))
+
+  says : (out : List ℕ) → e.out ≡ out → Takes written e.out written' → NoTrees ended.reading ended.linked → SaysAlone out written written' ended
+  says out is takes none = record { said = subst (λ x. Takes written x written') is takes; no_trees = none }
+
+  pub too_deep : ended.status ≡ TooDeep → OfTaken words left left' (λ depth taken. IsTooDeep depth taken × SaysAlone (depth_line depth) written written' ended)
+  too_deep is =
+      let w = went TooDeep is (λ e. cc) in
+      let g = w.0 in
+      let c = g.2.2 in
+      (g.0, g.1, (g.2.0, g.2.1, (c.1, says (depth_line g.0) c.2 w.1 c.0)))
+
+  pub matching : ended.status ≡ Matching → OfTaken words left left' (λ depth taken. SaysPlace depth taken written written' ended)
+  matching is =
+      let w = went Matching is (λ e. cc) in
+      let g = w.0 in
+      let c = g.2.2 in
+      let t = c.2 in
+      (g.0, g.1, (g.2.0, g.2.1, record { unmatched = c.1; error = t.0; due = t.1; alone = says _ t.2 w.1 c.0 }))
+
+  prints : (s : Status) → ended.status ≡ s → (r : Option (List Module)) (l : Option Linked) → ended.reading ≡ r → ended.linked ≡ l → (depth : ℕ) (taken : List ℕ) → HasTrees depth taken s r l e.out → Takes written e.out written' → Prints depth taken written written' ended
+  prints s is None l a b depth taken h t = absurd h
+  prints s is (Some reading) None a b depth taken h t = absurd h
+  prints s is (Some reading) (Some linked) a b depth taken h t =
       record {
         reading = reading;
         linked = linked;
         hands_out = (a, b);
         valid = h.valid;
         reads = h.reads;
-        printed = t;
+        printed = subst (λ x. Takes written x written') h.listed t;
         definitions = h.links.definitions;
         warned = h.links.warnings;
         means = means taken reading linked h.reads h.links;
         status = is ∙ h.status_is;
       }
 
-  pub headline : IsListing ended.status → (taken : List ℕ) × IsTaken left taken left' × Prints taken written written' ended
+  pub headline : IsListing ended.status → OfTaken words left left' (λ depth taken. Prints depth taken written written' ended)
   headline (inl is) =
       let g = went Clean is (λ e. cc) in
-      (g.0.1.0, g.0.1.1, prints Clean is ended.reading ended.linked refl refl g.0.1.0 g.0.1.2 g.1)
+      (g.0.0, g.0.1, (g.0.2.0, g.0.2.1, prints Clean is ended.reading ended.linked refl refl g.0.0 g.0.2.0 g.0.2.2 g.1))
   headline (inr is) =
       let g = went Warned is (λ e. cc) in
-      (g.0.1.0, g.0.1.1, prints Warned is ended.reading ended.linked refl refl g.0.1.0 g.0.1.2 g.1)
+      (g.0.0, g.0.1, (g.0.2.0, g.0.2.1, prints Warned is ended.reading ended.linked refl refl g.0.0 g.0.2.0 g.0.2.2 g.1))
 
-  trees_valid : (taken : List ℕ) (s : Status) (r : Option (List Module)) (l : Option Linked) → HasTrees taken s r l → IsValidText taken
-  trees_valid taken s None l h = absurd h
-  trees_valid taken s (Some r) None h = absurd h
-  trees_valid taken s (Some r) (Some l) h = h.valid
+  trees_valid : (depth : ℕ) (taken : List ℕ) (s : Status) (r : Option (List Module)) (l : Option Linked) → HasTrees depth taken s r l e.out → IsValidText depth taken
+  trees_valid depth taken s None l h = absurd h
+  trees_valid depth taken s (Some r) None h = absurd h
+  trees_valid depth taken s (Some r) (Some l) h = h.valid
 
-  pub complete : IsLink words → (HasCause reads reads' → ⊥) → (HasCause writes writes' → ⊥) → (ended.status ≡ OutOfMemory) ⊎ ((taken : List ℕ) × IsTaken left taken left' × Decides taken ended.status)
-  complete link no_read no_write = go result
+  abbrev Answer : ℕ → Type 0
+  Answer depth = (ended.status ≡ OutOfMemory) ⊎ ((taken : List ℕ) × IsTaken left taken left' × Decides depth taken ended.status)
+
+  pub complete : ((t : List ℕ) → ExactlyOne first t (rule 190) 0) → (depth : ℕ) → depth_of words ≡ Some depth → (HasCause reads reads' → ⊥) → (HasCause writes writes' → ⊥) → Answer depth
+  complete one depth asked no_read no_write = go result
     where
-      listed : (s : Status) → IsListing s → ended.status ≡ s → (taken : List ℕ) → IsTaken left taken left' → HasTrees taken s ended.reading ended.linked → (ended.status ≡ OutOfMemory) ⊎ ((taken : List ℕ) × IsTaken left taken left' × Decides taken ended.status)
-      listed s listing is taken is_taken h =
-          inr (taken, is_taken, record { valid = λ v. subst IsListing (sym is) listing; invalid = λ no. absurd (no (trees_valid taken s ended.reading ended.linked h)) })
+      same : (d : ℕ) → depth_of words ≡ Some d → d ≡ depth
+      same d is = let both : ◌≡◌ {A = Option ℕ} (Some d) (Some depth) = sym is ∙ asked in cc
 
-      by : (s : Status) → ended.status ≡ s → Goes s → (ended.status ≡ OutOfMemory) ⊎ ((taken : List ℕ) × IsTaken left taken left' × Decides taken ended.status)
-      by Clean is g = listed Clean (inl refl) is g.1.0 g.1.1 g.1.2
-      by Warned is g = listed Warned (inr refl) is g.1.0 g.1.1 g.1.2
-      by Matching is g = inr (g.1.0, g.1.1, record { valid = λ v. absurd (g.1.2.1 v); invalid = λ no. is })
-      by TooDeep is g = absurd g
-      by NotUtf8 is g = absurd g
-      by TooLong is g = absurd g
+      decides : (k : Kind) (d : ℕ) → depth_of words ≡ Some d → (taken : List ℕ) → IsTaken left taken left' → Is d taken k → StatusOf d taken k ended.status → Answer depth
+      decides k d is taken is_taken p s = inr (taken, is_taken, subst (λ x. Decides x taken ended.status) (same d is) (decided d taken one k ended.status p s))
+
+      by : (s : Status) → ended.status ≡ s → Goes s → Answer depth
+      by Clean is g = decides valid g.0 g.1 g.2.0 g.2.1 (trees_valid g.0 g.2.0 Clean ended.reading ended.linked g.2.2) (inl is)
+      by Warned is g = decides valid g.0 g.1 g.2.0 g.2.1 (trees_valid g.0 g.2.0 Warned ended.reading ended.linked g.2.2) (inr is)
+      by Matching is g = decides unmatched g.0 g.1 g.2.0 g.2.1 g.2.2.1 is
+      by TooDeep is g = decides deep g.0 g.1 g.2.0 g.2.1 g.2.2.1 is
+      by NotUtf8 is g = decides other g.0 g.1 g.2.0 g.2.1 g.2.2.1 is
+      by TooLong is g = decides long g.0 g.1 g.2.0 g.2.1 g.2.2.1 is
       by ReadFault is g = absurd (no_read g.2)
       by WriteFault is g = absurd g
-      by Usage is g = absurd (g.1 link)
+      by Usage is g = absurd (unknown (depth, asked) g.1)
       by OutOfMemory is g = inl is
 
-      go : Came e.due ended.status written (output e.due ended.linked) written' writes writes' → (ended.status ≡ OutOfMemory) ⊎ ((taken : List ℕ) × IsTaken left taken left' × Decides taken ended.status)
+      go : Came e.due ended.status written e.out written' writes writes' → Answer depth
       go (inl d) = by e.due d.0 e.course
       go (inr d) = absurd (no_write d.1)
 
-  pub no_trees : (s : Status) → ended.status ≡ s → IfSome (line s) (λ text. NoTrees ended.reading ended.linked × Takes written text written')
-  no_trees Clean is = tt
-  no_trees Warned is = tt
-  no_trees Matching is = let g = went Matching is (λ e. cc) in (g.0.1.2.0, subst (λ l. Takes written (output Matching l) written') g.0.1.2.0.1 g.1)
-  no_trees TooDeep is = tt
-  no_trees NotUtf8 is = tt
-  no_trees TooLong is = tt
-  no_trees ReadFault is = let g = went ReadFault is (λ e. cc) in (g.0.0, subst (λ l. Takes written (output ReadFault l) written') g.0.0.1 g.1)
-  no_trees WriteFault is = tt
-  no_trees Usage is = let g = went Usage is (λ e. cc) in (g.0.0, subst (λ l. Takes written (output Usage l) written') g.0.0.1 g.1)
-  no_trees OutOfMemory is = let g = went OutOfMemory is (λ e. cc) in (g.0.0, subst (λ l. Takes written (output OutOfMemory l) written') g.0.0.1 g.1)
-
-  pub no_split : IsNoSplit ended.status
-  no_split =
-      record {
-        deep = λ is. (went TooDeep is (λ e. cc)).0;
-        utf8 = λ is. (went NotUtf8 is (λ e. cc)).0;
-        long = λ is. (went TooLong is (λ e. cc)).0;
-      }
+  pub one_line : (s : Status) → ended.status ≡ s → IfSome (line s) (λ text. SaysAlone text written written' ended)
+  one_line Clean is = tt
+  one_line Warned is = tt
+  one_line Matching is = tt
+  one_line TooDeep is = tt
+  one_line NotUtf8 is = let g = went NotUtf8 is (λ e. cc) in let c = g.0.2.2 in says _ c.2 g.1 c.0
+  one_line TooLong is = let g = went TooLong is (λ e. cc) in let c = g.0.2.2 in says _ c.2 g.1 c.0
+  one_line ReadFault is = let g = went ReadFault is (λ e. cc) in says _ g.0.4 g.1 g.0.0
+  one_line WriteFault is = tt
+  one_line Usage is = let g = went Usage is (λ e. cc) in says _ g.0.3 g.1 g.0.0
+  one_line OutOfMemory is = let g = went OutOfMemory is (λ e. cc) in says _ g.0.3 g.1 g.0.0

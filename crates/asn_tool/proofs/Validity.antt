@@ -1,23 +1,22 @@
--- Texts that are not valid.
-use Rattle.std.proofs.Common.{◌≡◌, ℕ, ◌<◌, ◌≤◌, List, length, arith}
-use Rattle.asn_rules.specs.Expression.{rule}
-use Rattle.asn_rules.specs.First.{first}
-use Rattle.asn_rules.specs.Runs.{Ending, ends, fails, ExactlyOne}
-use Rattle.asn_rules.specs.Valid.{Fails}
-use Rattle.asn_tool.specs.Run.{depth, IsValidText}
+-- How long a text is, and one that does not match.
+use Rattle.std.proofs.Common.{ℕ, ◌<◌, ◌≤◌, List, length, refl, sym, subst, inl, inr, arith}
+use Rattle.asn_modules.specs.Whole.{IsMatchingError}
+use Rattle.asn_text.specs.declared.report.LexerError.{LexerError}
+use Rattle.asn_tool.specs.declared.judging.Due.{Due}
+use Rattle.asn_tool.specs.declared.status.Status.TheVariants.{Matching}
+use Rattle.asn_tool.specs.Due.{IsDue, IsLine}
+use Rattle.asn_tool.specs.Run.{IsTooLong, IsUnmatched, place_line}
 use Rattle.asn_tool.specs.Taking.{limit}
 
--- one that the grammar fails on
-pub failing : (text : List ℕ) → ExactlyOne first text (rule 190) 0 → Fails first text depth → IsValidText text → ⊥
-failing text one f v =
-    let same : ◌≡◌ {A = Ending} fails (ends v.matches.0) = (one.only fails (ends v.matches.0) f.0 v.matches.1 f.1 v.matches.2).0 in
-    absurd cc
-
--- one that is too long
-pub too_long : (text : List ℕ) → 2097152 < length text → IsValidText text → ⊥
+pub too_long : (text : List ℕ) → 2097152 < length text → IsTooLong text
 unfolding limit
-too_long text lt v = absurd (omega (arith, v.short))
+too_long text lt = omega arith
 
 pub short_enough : (text : List ℕ) → length text ≤ 2097152 → length text < limit
 unfolding limit
 short_enough text le = omega arith
+
+-- a text that does not match comes to the line of its place, or to want of memory
+pub unmatched_due : (depth : ℕ) (text : List ℕ) (error : LexerError) (due : Due) → IsUnmatched depth text → IsMatchingError text depth error → IsLine Matching (place_line error) due → IsDue depth text due
+unmatched_due depth text error due u m (inl e) = subst (IsDue depth text) (sym e) ((refl, refl), u, (error, m, refl))
+unmatched_due depth text error due u m (inr e) = subst (IsDue depth text) (sym e) ((refl, refl), refl)

@@ -4,16 +4,17 @@ use Rattle.asn_check.specs.declared.linked.Linked.{Linked}
 use Rattle.asn_check.specs.Listing.{listing_of}
 use Rattle.asn_check.specs.Meaning.{parameters_of}
 use Rattle.asn_check.specs.Warnings.{said_by, warnings_of}
-use Rattle.asn_modules.specs.Whole.{IsReading}
+use Rattle.asn_modules.specs.Whole.{IsMatchingError, IsReading}
 use Rattle.asn_names.specs.Definitions.{Definitions, Module, definitions_of, see, type_of, name_of, IsStanding}
 use Rattle.asn_names.specs.Faults.{IsClean}
 use Rattle.asn_names.specs.Kept.{given_definitions}
 use Rattle.asn_names.specs.Meaning.{AcceptsAlike, IsPlain}
+use Rattle.asn_text.specs.declared.report.LexerError.{LexerError}
 use Rattle.asn_tree.specs.declared.definitions.ToplevelDefinition.{ToplevelDefinition}
 use Rattle.asn_tool.specs.declared.ended.Ended.{Ended}
 use Rattle.asn_tool.specs.declared.status.Status.{Status}
 use Rattle.asn_tool.specs.declared.status.Status.TheVariants.{Clean, Warned, Matching, TooDeep, NotUtf8, TooLong}
-use Rattle.asn_tool.specs.Run.{IsValidText, status_of}
+use Rattle.asn_tool.specs.Run.{IsNoUtf8, IsTooDeep, IsTooLong, IsUnmatched, IsValidText, NoTrees, place_line, status_of}
 use Rattle.asn_tool.specs.Sink.{Takes}
 
 -- a listing was written
@@ -30,12 +31,12 @@ MeansWhatIsRead reading linked =
     × AcceptsAlike (definitions_of reading) linked (type_of d) (type_of e)
 
 -- The listing of one linked answer of the text is written, and the answer means what the text says.
-pub record Prints (text : List ℕ) (written written' : Option (List ℕ)) (ended : Ended) : Type 0 where
+pub record Prints (depth : ℕ) (text : List ℕ) (written written' : Option (List ℕ)) (ended : Ended) : Type 0 where
   pub reading : List Module
   pub linked : Linked
   -- the trees of this very run
   pub hands_out : (ended.reading ≡ Some reading) × (ended.linked ≡ Some linked)
-  pub valid : IsValidText text
+  pub valid : IsValidText depth text
   pub reads : IsReading text reading
   -- the sink holds what it held, and then the listing
   pub printed : Takes written (listing_of linked) written'
@@ -46,13 +47,23 @@ pub record Prints (text : List ℕ) (written written' : Option (List ℕ)) (ende
   pub means : MeansWhatIsRead reading linked.definitions
   pub status : ended.status ≡ status_of linked
 
--- What the text says decides: a valid text is listed, any other is none that matches.
-pub record Decides (text : List ℕ) (status : Status) : Type 0 where
-  pub valid : IsValidText text → IsListing status
-  pub invalid : (IsValidText text → ⊥) → status ≡ Matching
+-- The sink holds what it held, and then a line, and no trees are handed out.
+pub record SaysAlone (out : List ℕ) (written written' : Option (List ℕ)) (ended : Ended) : Type 0 where
+  pub said : Takes written out written'
+  pub no_trees : NoTrees ended.reading ended.linked
 
--- Statuses that no run answers yet: a text that is too long, no UTF-8 or too deep is none that matches.
-pub record IsNoSplit (status : Status) : Type 0 where
-  pub deep : status ≡ TooDeep → ⊥
-  pub utf8 : status ≡ NotUtf8 → ⊥
-  pub long : status ≡ TooLong → ⊥
+-- The text does not match, and the line tells the place where a part of a module is due.
+pub record SaysPlace (depth : ℕ) (text : List ℕ) (written written' : Option (List ℕ)) (ended : Ended) : Type 0 where
+  pub unmatched : IsUnmatched depth text
+  pub error : LexerError
+  -- the first part of a module that does not stand, its place by line and column, its context and the reason
+  pub due : IsMatchingError text depth error
+  pub alone : SaysAlone (place_line error) written written' ended
+
+-- What the text says decides the status, in this order: too long, no UTF-8, too deep, unmatched, and else a listing.
+pub record Decides (depth : ℕ) (text : List ℕ) (status : Status) : Type 0 where
+  pub long : IsTooLong text → status ≡ TooLong
+  pub utf8 : IsNoUtf8 text → status ≡ NotUtf8
+  pub deep : IsTooDeep depth text → status ≡ TooDeep
+  pub unmatched : IsUnmatched depth text → status ≡ Matching
+  pub valid : IsValidText depth text → IsListing status

@@ -1,43 +1,30 @@
 -- How a run goes: from the words and the bytes taken to a status, the trees and the text that is written.
-use Rattle.std.specs.Prelude.{◌≡◌, ◌<◌, ◌≤◌, ℕ, List, [], ◌∷◌, Option, Some, None, Bool, false, IsTrue, IfSome, length, take, codes, string_bytes, String}
+use Rattle.std.specs.Prelude.{◌≡◌, ◌<◌, ◌≤◌, ℕ, List, [], ◌∷◌, Option, Some, None, IfSome, length, take, String}
 use Rattle.std.specs.Global.{Global}
 use Rattle.std.specs.Io.KnownBytes.{IsAtEnd}
-use Rattle.std.specs.Str.{bytes_eq, IsUtf8}
+use Rattle.std.specs.Str.{IsUtf8}
 use Rattle.asn_check.specs.declared.linked.Linked.{Linked}
 use Rattle.asn_check.specs.Linked.{IsLinkedOf}
 use Rattle.asn_check.specs.Listing.{listing_of}
-use Rattle.asn_modules.specs.Whole.{IsReading}
+use Rattle.asn_modules.specs.Whole.{IsMatchingError, IsReading, report_of}
 use Rattle.asn_names.specs.Definitions.{Module}
 use Rattle.asn_rules.specs.First.{first}
-use Rattle.asn_rules.specs.Valid.{IsValid}
+use Rattle.asn_rules.specs.Valid.{Fails, IsDeeper, IsValid}
+use Rattle.asn_text.specs.declared.report.LexerError.{LexerError}
 use Rattle.asn_tree.specs.declared.errors.LinkerError.{LinkerError}
 use Rattle.asn_tool.specs.declared.ended.Ended.{Ended}
 use Rattle.asn_tool.specs.declared.status.Status.{Status}
-use Rattle.asn_tool.specs.declared.status.Status.TheVariants.{Clean, Warned, Matching, ReadFault, WriteFault, Usage, OutOfMemory}
+use Rattle.asn_tool.specs.declared.status.Status.TheVariants.{Clean, Warned, Matching, TooDeep, NotUtf8, TooLong, ReadFault, WriteFault, Usage, OutOfMemory}
 use Rattle.asn_tool.specs.Faults.{HasCause}
 use Rattle.asn_tool.specs.Giving.{TakesFront}
+use Rattle.asn_tool.specs.Lines.{depth_line, matching_line}
 use Rattle.asn_tool.specs.Sink.{Takes}
 use Rattle.asn_tool.specs.Source.{Gives}
 use Rattle.asn_tool.specs.Status.{line}
 use Rattle.asn_tool.specs.Taking.{limit, LosesFront}
+use Rattle.asn_tool.specs.Words.{depth_of}
 
--- the words are the one word `link`
-abbrev pub is_link : List (String Global) → Bool
-is_link (word ∷ []) = bytes_eq (string_bytes word) (codes "link")
-is_link _ = false
-
-abbrev pub IsLink : List (String Global) → Type 0
-IsLink words = IsTrue (is_link words)
-
--- how deep the calls of the grammar's rules may lie within each other
-abbrev pub depth : ℕ
-depth = 512
-
--- The text is short enough, is UTF-8, and is one or more modules by the grammar, within the depth.
-pub record IsValidText (text : List ℕ) : Type 0 where
-  pub short : length text < limit
-  pub utf8 : IsUtf8 text
-  pub matches : IsValid first text depth
+-- ---- the bytes
 
 -- The bytes were taken from a source: all that it had left, or the first of them up to the limit.
 pub record IsTaken (before : Option (List ℕ)) (taken : List ℕ) (after : Option (List ℕ)) : Type 0 where
@@ -45,6 +32,35 @@ pub record IsTaken (before : Option (List ℕ)) (taken : List ℕ) (after : Opti
   pub bounded : length taken ≤ limit
   pub end : length taken < limit → IsAtEnd after
   pub front : IfSome before (λ all. taken ≡ take limit all)
+
+-- no text has so many bytes
+abbrev pub IsTooLong : List ℕ → Type 0
+IsTooLong text = limit ≤ length text
+
+-- short enough, and no UTF-8
+pub record IsNoUtf8 (text : List ℕ) : Type 0 where
+  pub short : length text < limit
+  pub other : IsUtf8 text → ⊥
+
+-- short enough and UTF-8, and the calls of the grammar's rules lie deeper within each other than they may
+pub record IsTooDeep (depth : ℕ) (text : List ℕ) : Type 0 where
+  pub short : length text < limit
+  pub utf8 : IsUtf8 text
+  pub deeper : IsDeeper first text depth
+
+-- short enough and UTF-8, and none of the grammar, which is seen within the depth
+pub record IsUnmatched (depth : ℕ) (text : List ℕ) : Type 0 where
+  pub short : length text < limit
+  pub utf8 : IsUtf8 text
+  pub fails : Fails first text depth
+
+-- The text is short enough, is UTF-8, and is one or more modules by the grammar, within the depth.
+pub record IsValidText (depth : ℕ) (text : List ℕ) : Type 0 where
+  pub short : length text < limit
+  pub utf8 : IsUtf8 text
+  pub matches : IsValid first text depth
+
+-- ---- the trees
 
 abbrev pub status_by : List LinkerError → Status
 status_by [] = Clean
@@ -58,49 +74,68 @@ status_of linked = status_by linked.warnings
 abbrev pub NoTrees : Option (List Module) → Option Linked → Type 0
 NoTrees reading linked = (reading ≡ None) × (linked ≡ None)
 
--- The trees of a text: its reading, and the linked answer of that reading.
-pub record Answers (text : List ℕ) (status : Status) (reading : List Module) (linked : Linked) : Type 0 where
-  pub valid : IsValidText text
+-- The trees of a text: its reading, and the linked answer of that reading, whose listing is to be written.
+pub record Answers (depth : ℕ) (text : List ℕ) (status : Status) (reading : List Module) (linked : Linked) (out : List ℕ) : Type 0 where
+  pub valid : IsValidText depth text
   pub reads : IsReading text reading
   pub links : IsLinkedOf reading linked
   pub status_is : status ≡ status_of linked
+  pub listed : out ≡ listing_of linked
 
-abbrev pub HasTrees : List ℕ → Status → Option (List Module) → Option Linked → Type 0
-HasTrees text status (Some reading) (Some linked) = Answers text status reading linked
-HasTrees text status (Some reading) None = ⊥
-HasTrees text status None linked = ⊥
+abbrev pub HasTrees : ℕ → List ℕ → Status → Option (List Module) → Option Linked → List ℕ → Type 0
+HasTrees depth text status (Some reading) (Some linked) out = Answers depth text status reading linked out
+HasTrees depth text status (Some reading) None out = ⊥
+HasTrees depth text status None linked out = ⊥
 
--- What the text comes to under each status.
-abbrev pub Comes : List ℕ → Status → Option (List Module) → Option Linked → Type 0
-Comes text Clean reading linked = HasTrees text Clean reading linked
-Comes text Warned reading linked = HasTrees text Warned reading linked
-Comes text Matching reading linked = NoTrees reading linked × (IsValidText text → ⊥)
-Comes text OutOfMemory reading linked = NoTrees reading linked
-Comes text _ reading linked = ⊥
-
--- How a run comes to each status of what is to be written.
-module _ (words : List (String Global)) (before after : Option (List ℕ)) (faults faults' : ℕ) where
-  -- the words ask for it, and the bytes taken come to the status
-  abbrev pub Judges : Status → Option (List Module) → Option Linked → Type 0
-  Judges due reading linked = IsLink words × ((taken : List ℕ) × IsTaken before taken after × Comes taken due reading linked)
-
-  abbrev pub Course : Status → Option (List Module) → Option Linked → Type 0
-  Course Clean reading linked = Judges Clean reading linked
-  Course Warned reading linked = Judges Warned reading linked
-  Course Matching reading linked = Judges Matching reading linked
-  Course ReadFault reading linked = NoTrees reading linked × IsLink words × HasCause faults faults' × LosesFront limit before after
-  Course Usage reading linked = NoTrees reading linked × (IsLink words → ⊥) × (after ≡ before)
-  Course OutOfMemory reading linked = NoTrees reading linked × IsLink words × LosesFront limit before after
-  Course _ reading linked = ⊥
+-- ---- what is written
 
 abbrev pub or_nothing : Option (List ℕ) → List ℕ
 or_nothing None = []
 or_nothing (Some text) = text
 
--- What is written: the listing of the linked answer, or the line of the status.
-abbrev pub output : Status → Option Linked → List ℕ
-output due (Some linked) = listing_of linked
-output due None = or_nothing (line due)
+-- the line of a text that does not match
+abbrev pub place_line : LexerError → List ℕ
+place_line error = matching_line (report_of error.kind).line (report_of error.kind).column
+
+-- the line tells the place where a part of a module is due in the text
+abbrev pub TellsPlace : ℕ → List ℕ → List ℕ → Type 0
+TellsPlace depth text out = (error : LexerError) × IsMatchingError text depth error × (out ≡ place_line error)
+
+-- What the text comes to under each status, and what is to be written.
+abbrev pub Comes : ℕ → List ℕ → Status → Option (List Module) → Option Linked → List ℕ → Type 0
+Comes depth text Clean reading linked out = HasTrees depth text Clean reading linked out
+Comes depth text Warned reading linked out = HasTrees depth text Warned reading linked out
+Comes depth text Matching reading linked out = NoTrees reading linked × IsUnmatched depth text × TellsPlace depth text out
+Comes depth text TooDeep reading linked out = NoTrees reading linked × IsTooDeep depth text × (out ≡ depth_line depth)
+Comes depth text NotUtf8 reading linked out = NoTrees reading linked × IsNoUtf8 text × (out ≡ or_nothing (line NotUtf8))
+Comes depth text TooLong reading linked out = NoTrees reading linked × IsTooLong text × (out ≡ or_nothing (line TooLong))
+Comes depth text OutOfMemory reading linked out = NoTrees reading linked × (out ≡ or_nothing (line OutOfMemory))
+Comes depth text _ reading linked out = ⊥
+
+-- the words ask for a depth, bytes were taken, and this holds of them
+abbrev pub OfTaken : List (String Global) → Option (List ℕ) → Option (List ℕ) → (ℕ → List ℕ → Type 0) → Type 0
+OfTaken words before after holds = (depth : ℕ) × (depth_of words ≡ Some depth) × ((taken : List ℕ) × IsTaken before taken after × holds depth taken)
+
+-- the words ask for some depth
+abbrev pub AreKnown : List (String Global) → Type 0
+AreKnown words = (depth : ℕ) × (depth_of words ≡ Some depth)
+
+-- How a run comes to each status of what is to be written.
+module _ (words : List (String Global)) (before after : Option (List ℕ)) (faults faults' : ℕ) where
+  abbrev pub Judges : Status → Option (List Module) → Option Linked → List ℕ → Type 0
+  Judges due reading linked out = OfTaken words before after (λ depth taken. Comes depth taken due reading linked out)
+
+  abbrev pub Course : Status → Option (List Module) → Option Linked → List ℕ → Type 0
+  Course Clean reading linked out = Judges Clean reading linked out
+  Course Warned reading linked out = Judges Warned reading linked out
+  Course Matching reading linked out = Judges Matching reading linked out
+  Course TooDeep reading linked out = Judges TooDeep reading linked out
+  Course NotUtf8 reading linked out = Judges NotUtf8 reading linked out
+  Course TooLong reading linked out = Judges TooLong reading linked out
+  Course ReadFault reading linked out = NoTrees reading linked × AreKnown words × HasCause faults faults' × LosesFront limit before after × (out ≡ or_nothing (line ReadFault))
+  Course Usage reading linked out = NoTrees reading linked × (depth_of words ≡ None) × (after ≡ before) × (out ≡ or_nothing (line Usage))
+  Course OutOfMemory reading linked out = NoTrees reading linked × AreKnown words × LosesFront limit before after × (out ≡ or_nothing (line OutOfMemory))
+  Course WriteFault reading linked out = ⊥
 
 -- How what is to be written under a status reaches the sink, and the status that is answered.
 abbrev pub Delivered : Status → List ℕ → Option (List ℕ) → Option (List ℕ) → ℕ → ℕ → Status → Type 0
@@ -109,7 +144,8 @@ Delivered due text before after faults faults' status = (status ≡ due) × Take
 
 -- The whole of a run.
 pub record Ends (words : List (String Global)) (left left' : Option (List ℕ)) (reads reads' : ℕ) (written written' : Option (List ℕ)) (writes writes' : ℕ) (ended : Ended) : Type 0 where
-  -- the status of what was to be written
+  -- the status of what was to be written, and the bytes of it
   pub due : Status
-  pub course : Course words left left' reads reads' due ended.reading ended.linked
-  pub delivered : Delivered due (output due ended.linked) written written' writes writes' ended.status
+  pub out : List ℕ
+  pub course : Course words left left' reads reads' due ended.reading ended.linked out
+  pub delivered : Delivered due out written written' writes writes' ended.status

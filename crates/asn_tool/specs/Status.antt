@@ -20,10 +20,10 @@ number OutOfMemory = 9
 abbrev pub line : Status → Option (List ℕ)
 line Clean = None
 line Warned = None
-line Matching = Some (codes "error matching\n")
+line Matching = None
 line TooDeep = None
-line NotUtf8 = None
-line TooLong = None
+line NotUtf8 = Some (codes "error utf8\n")
+line TooLong = Some (codes "error long\n")
 line ReadFault = Some (codes "error read\n")
 line WriteFault = None
 line Usage = Some (codes "error usage\n")

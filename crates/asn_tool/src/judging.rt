@@ -1,15 +1,19 @@
-//! From the bytes of a text to what is to be written: the status, the trees and the listing.
+//! From the bytes of a text to what is to be written: the status, the trees and the listing or the line.
 
-ghost use Rattle.asn_tool.specs.Due.{an_error, IsDue, Links};
-ghost use Rattle.asn_tool.specs.Run.{status_of};
+ghost use Rattle.asn_modules.specs.Whole.{report_of};
+ghost use Rattle.asn_tool.specs.Due.{an_error, IsDue, IsLine, Links};
+ghost use Rattle.asn_tool.specs.Lines.{depth_line, matching_line};
+ghost use Rattle.asn_tool.specs.Run.{place_line, status_of};
 ghost use Rattle.asn_tool.specs.Taking.{limit};
+ghost use Rattle.asn_tool.specs.declared.status.Status.TheVariants as the;
 ghost use Rattle.std.specs.Prelude.{◌≡◌, ◌<◌, length};
 
+use crate::lines::{depth_line, matching_line};
 use crate::status::Status;
 use asn_check::{Linked, link_reading, listing};
 use asn_memory::Text;
 use asn_modules::{SpecError, asn_spec};
-use asn_rules::one_outcome;
+use asn_text::{LexerError, LexerErrorType};
 use asn_tree::Reading;
 use std::alloc::Global;
 use std::str;
@@ -17,20 +21,17 @@ use std::str;
 /// How many bytes a text may have.
 pub const LONGEST: usize = 2_097_152;
 
-/// How deep the calls of the grammar's rules may lie within each other.
-const DEPTH: usize = 512;
-
 /// What is to be written, with the status and the trees that it comes of.
 #[derive(Drop)]
 pub(crate) struct Due {
     pub(crate) status: Status,
     pub(crate) reading: Option<Reading>,
     pub(crate) linked: Option<Linked>,
-    /// The listing of the linked answer; without it the status has a line.
-    pub(crate) listing: Option<Text>,
+    /// The listing of the linked answer, or a line with numbers in it; without it the status has a line.
+    pub(crate) text: Option<Text>,
 }
 
-/// An error line is to be written.
+/// An error line is to be written, that of the status.
 pub(crate) fn error(status: Status) -> Due
     ensures { result ≡ an_error status }
 {
@@ -38,7 +39,38 @@ pub(crate) fn error(status: Status) -> Due
         status,
         reading: None,
         linked: None,
-        listing: None,
+        text: None,
+    }
+}
+
+/// The line that tells the place where a text does not match.
+fn unmatched(alloc: Global, error_told: &LexerError) -> Due
+    ensures { IsLine the.Matching (place_line error_told.now) result }
+{
+    let LexerErrorType::MatchingError(report) = &error_told.kind;
+    match matching_line(alloc, report.line, report.column) {
+        Ok(line) => Due {
+            status: Status::Matching,
+            reading: None,
+            linked: None,
+            text: Some(line),
+        },
+        Err(_) => error(Status::OutOfMemory),
+    }
+}
+
+/// The line that tells the depth that a text goes past.
+fn too_deep(alloc: Global, depth: usize) -> Due
+    ensures { IsLine the.TooDeep (depth_line depth) result }
+{
+    match depth_line(alloc, depth) {
+        Ok(line) => Due {
+            status: Status::TooDeep,
+            reading: None,
+            linked: None,
+            text: Some(line),
+        },
+        Err(_) => error(Status::OutOfMemory),
     }
 }
 
@@ -62,7 +94,7 @@ fn link(alloc: Global, reading: Reading) -> Due
                 status: status_of_linked(&linked),
                 reading: Some(reading),
                 linked: Some(linked),
-                listing: Some(text),
+                text: Some(text),
             },
             Err(_) => error(Status::OutOfMemory),
         },
@@ -71,28 +103,27 @@ fn link(alloc: Global, reading: Reading) -> Due
 }
 
 /// Reads a text that is UTF-8, and links it.
-fn read(alloc: Global, source: &str) -> Due
+fn read(alloc: Global, source: &str, depth: usize) -> Due
     requires { length source.now < limit }
-    ensures { IsDue source.now result }
+    ensures { IsDue depth source.now result }
 {
-    one_outcome();
-    match asn_spec(alloc, source, DEPTH) {
+    match asn_spec(alloc, source, depth) {
         Ok(reading) => link(alloc, reading),
-        Err(SpecError::Matching) => error(Status::Matching),
-        Err(SpecError::TooDeep) => error(Status::Matching),
+        Err(SpecError::Lexer(told)) => unmatched(alloc, &told),
+        Err(SpecError::TooDeep) => too_deep(alloc, depth),
         Err(SpecError::OutOfMemory) => error(Status::OutOfMemory),
     }
 }
 
-/// What the bytes of a text come to.
-pub(crate) fn judge(alloc: Global, bytes: &[u8]) -> Due
-    ensures { IsDue bytes.now result }
+/// What the bytes of a text come to, judged by their number, then as UTF-8, then by the grammar within the depth.
+pub(crate) fn judge(alloc: Global, bytes: &[u8], depth: usize) -> Due
+    ensures { IsDue depth bytes.now result }
 {
     if bytes.len() > LONGEST {
-        return error(Status::Matching);
+        return error(Status::TooLong);
     }
     match str::from_utf8(bytes) {
-        Ok(source) => read(alloc, source),
-        Err(_) => error(Status::Matching),
+        Ok(source) => read(alloc, source, depth),
+        Err(_) => error(Status::NotUtf8),
     }
 }

@@ -48,20 +48,22 @@ impl Status {
     }
 }
 
-/// The line that is written under a status, with its line feed; None where no one line stands for it.
+/// The line that is written under a status, with its line feed; None where no one line stands for it: under Clean and
+/// Warned the listing is written, under Matching and TooDeep a line with numbers in it ([`crate::matching_line`],
+/// [`crate::depth_line`]), and under WriteFault nothing further.
 pub fn error_line(status: Status) -> Option<&'static str>
     ensures { option_map (λ text. text.now) result ≡ line status }
 {
     match status {
-        Status::Matching => Some("error matching\n"),
+        Status::NotUtf8 => Some("error utf8\n"),
+        Status::TooLong => Some("error long\n"),
         Status::ReadFault => Some("error read\n"),
         Status::Usage => Some("error usage\n"),
         Status::OutOfMemory => Some("error memory\n"),
         Status::Clean => None,
         Status::Warned => None,
+        Status::Matching => None,
         Status::TooDeep => None,
-        Status::NotUtf8 => None,
-        Status::TooLong => None,
         Status::WriteFault => None,
     }
 }

@@ -1,6 +1,5 @@
 //! The words that the program is given.
 
-ghost use Rattle.asn_tool.specs.Run.{is_link};
 ghost use Rattle.asn_tool.specs.Words.{at_most_greatest, depth_of, spelled_depth, starts_above_zero};
 ghost use Rattle.std.specs.Prelude.{◌≡◌};
 
@@ -9,16 +8,6 @@ pub(crate) const DEFAULT_DEPTH: usize = 512;
 
 /// The greatest depth that the words may name.
 pub(crate) const GREATEST_DEPTH: usize = 2000;
-
-/// Whether the words are the one word `link`.
-pub(crate) fn are_link(words: &[String]) -> bool
-    ensures { result ≡ is_link words.now }
-{
-    match words {
-        [word] => word.as_str() == "link",
-        _ => false,
-    }
-}
 
 /// The depth that the words ask for: 512 for `link`, and N for `link --depth N` with N from 1 to 2000 in plain decimal
 /// digits, without a sign or a leading zero. None for all other words.

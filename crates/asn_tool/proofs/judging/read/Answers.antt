@@ -1,9 +1,8 @@
-use Rattle.std.proofs.Common.{refl, ap, arith, Err}
-use Rattle.asn_rules.specs.declared.grammar.Grammar.TheVariants.{First}
-use Rattle.asn_tool.proofs.Validity.{failing}
+use Rattle.std.proofs.Common.{ap, Err}
+use Rattle.asn_tool.proofs.Validity.{unmatched_due}
 use Rattle.asn_tool.proofs.judging.read.Goals as goal
 
-pub returns-in-Err-Matching : goal.returns-in-Err-Matching
-returns-in-Err-Matching c =
-    let one = c.one_outcome.ensures First c.args.source.now 190 0 (omega arith) in
-    rw c.error.ensures (refl, ((refl, refl), λ v. failing c.args.source.now one (c.in-Err-Matching.ensures.matching (ap Err c.in-Err-Matching.field-0-is)) v))
+pub returns-in-Err-Lexer : goal.returns-in-Err-Lexer
+returns-in-Err-Lexer c =
+    let m = c.in-Err-Lexer.ensures.matching c.in-Err-Lexer.told (ap Err c.in-Err-Lexer.field-0-is) in
+    unmatched_due c.args.depth c.args.source.now c.in-Err-Lexer.told c.unmatched.result (record { short = c.requires; utf8 = c.utf8.source; fails = m.0 }) m.1 c.unmatched.ensures
