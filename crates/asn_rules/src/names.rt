@@ -16,7 +16,7 @@ pub const LINE_COMMENT: u8 = 5;
 pub const LINE_BODY: u8 = 6;
 /// What follows the first letter of a name.
 pub const NAME_TAIL: u8 = 7;
-/// A name with the blanks before it.
+/// A name, with the blanks and comments before it.
 pub const IDENTIFIER: u8 = 8;
 /// The name of a type, no reserved word.
 pub const TITLE_CASE_IDENTIFIER: u8 = 9;
