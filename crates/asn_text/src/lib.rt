@@ -7,6 +7,7 @@
 mod at_least_one;
 mod bits;
 pub mod constants;
+mod equality;
 mod errors;
 mod fault;
 mod gap;
