@@ -1,18 +1,23 @@
 -- The tries within the rules that the readers ask for.
-use Rattle.std.proofs.Common.{◌≡◌, ℕ, ◌<◌, ◌≤◌, List, ◌∷◌, ◌++◌, Bool, true, false, length, get_or, drop, refl, sym, ap, subst, arith, inl, inr}
+use Rattle.std.proofs.Common.{Result, Ok, Err, IfErr, ◌∙◌, ◌≡◌, ℕ, ◌<◌, ◌≤◌, List, ◌∷◌, ◌++◌, Bool, true, false, length, get_or, drop, refl, sym, ap, subst, arith, inl, inr}
 use Rattle.std.proofs.lemmas.Bool.Decides.{Decides-eqb}
 use Rattle.std.proofs.lemmas.Slice.Eq.{starts_is}
 use Rattle.std.proofs.lemmas.Str.{IsCharBoundary-after_ascii}
-use Rattle.std.specs.Prelude.{nat_eq, codes, ◌||◌, if◌then◌else◌}
+use Rattle.std.specs.Prelude.{nat_eq, codes, ◌||◌, if◌then◌else◌, ◌-◌, take, slice_range}
 use Rattle.std.specs.List.{starts_with}
 use Rattle.std.specs.Str.{IsUtf8, IsCharBoundary}
-use Rattle.asn_rules.specs.Expression.{Expression, see, seq, guarded, rule, skip, rule_of, bytes}
+use Rattle.asn_rules.specs.Expression.{Expression, see, seq, choice, many, never, guarded, rule, skip, rule_of, bytes}
 use Rattle.asn_rules.specs.Runs.{ends, fails, Runs, ExactlyOne}
 use Rattle.asn_rules.specs.Whole.{whole_rules}
 use Rattle.asn_rules.specs.LexicalRules.{lexical_rules_before}
 use Rattle.asn_rules.proofs.Theory.{runs_lies}
-use Rattle.asn_text.specs.Reads.{EndsAt, HasPart, skips_gap, is_comment, body_rule}
-use Rattle.asn_text.proofs.Tries.{parts, called, skipped, guard_kept, stood, chosen}
+use Rattle.asn_text.specs.Reads.{EndsAt, HasPart, skips_gap, is_comment, body_rule, passes, FailsIn, IsFaultOf, IsGapFault}
+use Rattle.asn_text.specs.Input.{part_of}
+use Rattle.asn_text.specs.Part.{shown}
+use Rattle.asn_text.specs.declared.input.Input.{Input}
+use Rattle.asn_text.specs.declared.fault.ParseFault.{ParseFault}
+use Rattle.asn_text.specs.declared.fault.ParseFault.TheVariants.{Fail, TooDeep, OutOfMemory}
+use Rattle.asn_text.proofs.Tries.{many_stands, parts, called, skipped, guard_kept, stood, chosen}
 
 module _ (text : List ℕ) where
   -- a part within a greater depth
@@ -135,3 +140,37 @@ module _ (text : List ℕ) where
 
     pub no_failure : {h : ℕ} → Runs whole_rules text (rule number) offset fails h → ⊥
     no_failure {h} run = let e = (one.only (ends part.place) fails part.height h part.run run).0 in cc
+
+  passed : (e : Expression) {j h : ℕ} → Runs whole_rules text e 0 (ends j) h → passes e (slice_range text 0 j) ≡ true
+  passed (see s) run = refl
+  passed (seq a b) run = refl
+  passed (choice a b) run = refl
+  passed (many a) run = refl
+  passed (never a) run = refl
+  passed (guarded a g) run = (guard_kept whole_rules text run).allowed
+  passed (rule n) run = refl
+  passed (skip n) run = refl
+
+  all_before : (j : ℕ) → slice_range text 0 j ≡ take j text
+  all_before j = let same : j - 0 ≡ j = omega arith in ap (λ n. take n text) same
+
+  -- what a rule takes passes its guard
+  pub passed_guard : (number depth end : ℕ) → EndsAt text number depth end → passes (rule_of whole_rules number) (take end text) ≡ true
+  passed_guard number depth end at_end =
+      let run = (called whole_rules text at_end.1.0).run in
+      ap (passes (rule_of whole_rules number)) (sym (all_before end)) ∙ passed (rule_of whole_rules number) run
+
+  -- blanks and comments never fail
+  gap_stands : {h : ℕ} → Runs whole_rules text (rule_of whole_rules 1) 0 fails h → ⊥
+  unfolding whole_rules lexical_rules_before
+  gap_stands run = many_stands whole_rules text run
+
+  pub no_gap_failure : {depth : ℕ} → FailsIn text 1 depth → ⊥
+  no_gap_failure failing = gap_stands (called whole_rules text failing.1.0).run
+
+-- so the one fault of passing them is that they nest too deep
+pub gap_fault : (name : List ℕ) (input : Input) (depth : ℕ) (result : Result ℕ ParseFault) → IfErr result (IsFaultOf 1 name input depth) → IfErr result (IsGapFault input depth)
+gap_fault name input depth (Ok place) is = is
+gap_fault name input depth (Err (Fail tree)) is = no_gap_failure (shown (part_of input)) is.0
+gap_fault name input depth (Err TooDeep) is = is
+gap_fault name input depth (Err OutOfMemory) is = is

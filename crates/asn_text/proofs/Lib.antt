@@ -2,4 +2,5 @@ pub mod Failures
 pub mod Gaps
 pub mod Parts
 pub mod Positions
+pub mod Standing
 pub mod Tries

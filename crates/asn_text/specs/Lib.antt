@@ -9,3 +9,5 @@ pub mod Fault
 pub mod Until
 pub mod Bits
 pub mod Reads
+pub mod Seen
+pub mod Deciding

@@ -1,8 +1,8 @@
 -- What the lexical readers read (X.680 12): a rule of the table is tried where the input begins.
-use Rattle.std.specs.Prelude.{◌≡◌, ℕ, ◌+◌, ◌≤◌, Bool, true, false, ◌||◌, List, codes, take, drop, slice_range, nat_eq, if◌then◌else◌}
+use Rattle.std.specs.Prelude.{◌≡◌, ℕ, ◌+◌, ◌≤◌, Bool, true, false, ◌||◌, List, codes, take, drop, slice_range, nat_eq, ℤ, Option, Some, None, if◌then◌else◌}
 use Rattle.std.specs.List.{starts_with}
 use Rattle.asn_rules.specs.Expression.{Expression, rule, seq, skip, guarded, rule_of, Sight, bytes, word as whole_word}
-use Rattle.asn_rules.specs.Guards.{allows}
+use Rattle.asn_rules.specs.Guards.{bare, natural, integer, allows}
 use Rattle.asn_rules.specs.Lexical.{stands, width}
 use Rattle.asn_rules.specs.Runs.{Ending, ends, fails, Runs, Exceeds}
 use Rattle.asn_rules.specs.Whole.{whole_rules}
@@ -108,3 +108,29 @@ IsFaultOfFinding sought name input depth OutOfMemory = ⊥
 -- a whole word, or these bytes
 abbrev pub sight_of : Bool → List ℕ → Sight
 sight_of is_word text = if is_word then whole_word text else bytes text
+
+-- the number that digits alone spell, from 0 to 2^bits - 1
+abbrev pub IsNatural : ℕ → List ℕ → ℕ → ℕ → Type 0
+IsNatural bits text number place = natural bits (bare (take place text)) ≡ Some number
+
+-- the number that digits spell, with a sign or without one, from -2^bits to 2^bits - 1
+abbrev pub IsWhole : ℕ → List ℕ → ℤ → ℕ → Type 0
+IsWhole bits text number place = integer bits (bare (take place text)) ≡ Some number
+
+-- a comma where the rule takes something
+abbrev pub IsComma : Option ℕ → ℕ → Type 0
+IsComma comma place = comma ≡ (if nat_eq place 0 then None else Some 44)
+
+-- a mark, which holds nothing
+abbrev pub IsMark : ℕ → Type 0
+IsMark place = Unit {0}
+
+-- The rest begins behind the blanks and comments.
+abbrev pub SkipsTo : ℕ → Part → Part → Type 0
+SkipsTo depth part rest = (place : ℕ) × (EndsAt (shown part) 1 depth place × (rest ≡ part_from place part))
+
+-- The one fault of passing blanks and comments: their height exceeds the depth.
+abbrev pub IsGapFault : Input → ℕ → ParseFault → Type 0
+IsGapFault input depth (Fail tree) = ⊥
+IsGapFault input depth TooDeep = IsTooDeep (shown (part_of input)) 1 depth
+IsGapFault input depth OutOfMemory = ⊥

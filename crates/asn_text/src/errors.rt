@@ -10,7 +10,7 @@ use asn_memory::{Box, Mem};
 use std::alloc::Global;
 
 /// The kinds of failures that combinators tell.
-#[derive(Clone, Copy, Debug, PartialEq)]
+#[derive(Clone, Copy, Debug)]
 pub enum NomKind {
     Alt,
     Eof,
@@ -20,35 +20,35 @@ pub enum NomKind {
 }
 
 /// Why a place fails. Readers themselves give `External` with the name of their rule.
-#[derive(Clone, Copy, Debug, PartialEq)]
+#[derive(Clone, Copy, Debug)]
 pub enum ErrorKind {
     Nom(NomKind),
     External(&'static str),
 }
 
 /// What a reader was at when a part of it failed.
-#[derive(Clone, Copy, Debug, PartialEq)]
+#[derive(Clone, Copy, Debug)]
 pub enum Context {
     Name(&'static str),
     ErrorKind(ErrorKind),
 }
 
 /// A step on the way to a failure: where a reader began, and what it was at.
-#[derive(Clone, Copy, Debug, PartialEq)]
+#[derive(Clone, Copy, Debug)]
 pub struct ErrorLink<'a> {
     pub input: Input<'a>,
     pub context: Context,
 }
 
 /// A failure by itself: the place and the reason.
-#[derive(Clone, Copy, Debug, PartialEq)]
+#[derive(Clone, Copy, Debug)]
 pub struct ErrorLeaf<'a> {
     pub input: Input<'a>,
     pub kind: ErrorKind,
 }
 
 /// An error that is a text alone.
-#[derive(Clone, Copy, Debug, PartialEq)]
+#[derive(Clone, Copy, Debug)]
 pub struct MiscError(pub &'static str);
 
 /// The links of a branch, the innermost first: at least one.

@@ -7,10 +7,14 @@
 mod at_least_one;
 mod bits;
 pub mod constants;
+mod equality;
 mod errors;
 mod fault;
+mod gap;
 mod input;
 mod markers;
+mod marks;
+mod numbers;
 mod place;
 mod readers;
 mod report;
@@ -26,8 +30,11 @@ pub use errors::{
     NomKind,
 };
 pub use fault::{ParseFault, ParserResult};
+pub use gap::{skip_ws, skip_ws_and_comments, symbol, word};
 pub use input::Input;
 pub use markers::{ExtensionMarker, OptionalMarker, RangeSeperator};
+pub use marks::{extension_marker, optional_comma, range_seperator};
+pub use numbers::{number_i32, number_i128, number_u64, number_u128};
 pub use readers::{
     assignment, block_comment, comment, identifier, line_comment, title_case_identifier,
     uppercase_identifier, value_identifier,
