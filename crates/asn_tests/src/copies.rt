@@ -2,7 +2,7 @@
 
 use crate::parts::{ends_of, first_definition, integer_in, range_in, range_of, sequence_in};
 use crate::readings::reading_of;
-use crate::texts::WHOLE;
+use asn_run_tests::texts::WHOLE;
 use asn_copy::{
     copy_asn1_type, copy_asn1_value, copy_boolean, copy_constraint, copy_declaration_elsewhere,
     copy_element_or_set_operation, copy_element_set, copy_integer, copy_list,

@@ -1,14 +1,12 @@
-//! Tests of the whole house, from a text to its listing, and of each room's calls on what the others make.
+//! Tests of the whole house, from a text to its trees, and of each room's calls on what the others make.
 //!
-//! The room above all others, which nothing stands on. It holds what no clause says: rows of texts with the listings
-//! that the notation gives them, and each call once with ample memory. One module for each topic; `texts`, `readings`
-//! and `parts` have what they share.
+//! The room above all others, which nothing stands on. It holds what no clause says: the trees that a text is read and
+//! linked as, and each call once with ample memory. One module for each topic; `readings` and `parts` have what they
+//! share, and the texts are those of `asn_run_tests`.
 #![tactic(auto)]
 
 #[cfg(test)]
 mod copies;
-#[cfg(test)]
-mod faults;
 #[cfg(test)]
 mod headers;
 #[cfg(test)]
@@ -22,11 +20,6 @@ mod parts;
 #[cfg(test)]
 mod readings;
 #[cfg(test)]
-mod rows;
-#[cfg(test)]
 mod rules;
-#[cfg(test)]
-mod text;
-pub mod texts;
 #[cfg(test)]
 mod trees;

@@ -1,13 +1,12 @@
 //! Rules of the grammar, tried and derived at the start of a text.
 
 use asn_rules::names::{ASN_MODULE, ASN_SPEC, BOOLEAN, MODULE_REFERENCE, VALUE_RANGE};
-use asn_rules::{Grammar, MatchFault, Node, Outcome, RuleId, derive_rule, try_rule};
-use std::alloc::Global;
+use asn_rules::{Grammar, MatchFault, Node, Outcome, RuleId, derive_rule, outcome_of};
 use std::test::Fail;
 
 // Where the rule ends; None where it fails or its height is above 512.
-fn end_of(alloc: Global, rule: RuleId, text: &str) -> Option<usize> {
-    match try_rule(alloc, Grammar::First, text, rule, 0, 512) {
+fn end_of(rule: RuleId, text: &str) -> Option<usize> {
+    match outcome_of(Grammar::First, text, rule, 0, 512) {
         Ok(Outcome::End { offset, .. }) => Some(offset),
         Ok(Outcome::Fail { .. }) | Err(_) => None,
     }
@@ -15,19 +14,18 @@ fn end_of(alloc: Global, rule: RuleId, text: &str) -> Option<usize> {
 
 #[test]
 fn where_rules_end(rt: HostRuntime) {
-    let alloc = rt.alloc();
     let whole = RuleId::new(ASN_SPEC);
     assert_eq!(rt;
-        end_of(alloc, whole, "M DEFINITIONS ::= BEGIN END\n"),
+        end_of(whole, "M DEFINITIONS ::= BEGIN END\n"),
         Some(28)
     );
-    assert_eq!(rt; end_of(alloc, whole, "M DEFINITIONS ::= BEGIN"), None);
-    assert_eq!(rt; end_of(alloc, RuleId::new(BOOLEAN), " BOOLEAN }"), Some(8));
+    assert_eq!(rt; end_of(whole, "M DEFINITIONS ::= BEGIN"), None);
+    assert_eq!(rt; end_of(RuleId::new(BOOLEAN), " BOOLEAN }"), Some(8));
     assert_eq!(rt;
-        end_of(alloc, RuleId::new(VALUE_RANGE), "-3 .. 7)"),
+        end_of(RuleId::new(VALUE_RANGE), "-3 .. 7)"),
         Some(7)
     );
-    assert_eq!(rt; end_of(alloc, RuleId::new(VALUE_RANGE), "5..1)"), None);
+    assert_eq!(rt; end_of(RuleId::new(VALUE_RANGE), "5..1)"), None);
 }
 
 #[test]

@@ -1,7 +1,7 @@
 //! The trees that a run hands out.
 
 use crate::parts::range_in;
-use crate::texts::{WHOLE, words_of};
+use asn_run_tests::texts::{WHOLE, words_of};
 use asn_tool::{Ended, SureSink, SureSource, run};
 use asn_tree::{TaggingEnvironment, ToplevelDefinition};
 use std::alloc::Global;

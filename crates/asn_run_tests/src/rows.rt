@@ -1,4 +1,4 @@
-//! Texts, and what a run under the word `link` writes for each.
+//! Texts, and what a run writes for each.
 
 use crate::texts::{LISTING, WHOLE, module, words_of};
 use asn_tool::{Source, Status, SureSink, SureSource, run};
@@ -13,15 +13,15 @@ fn assert_row(
     rt: &impl Abort,
     alloc: Global,
     text: &[u8],
-    listing: &str,
+    written: &str,
     status: Status,
 ) -> Result<(), Fail> {
     let words = words_of(alloc, &["link"])?;
     let mut source = SureSource::new(text);
     let mut sink = SureSink::new(alloc, ROOM)?;
-    let ended = run(alloc, words.as_slice(), &mut source, &mut sink);
-    assert_eq!(rt; sink.bytes(), Some(listing.as_bytes()), "at {text:?}");
-    assert_eq!(rt; ended.status, status, "at {text:?}");
+    let came = run(alloc, words.as_slice(), &mut source, &mut sink).status;
+    assert_eq!(rt; sink.bytes(), Some(written.as_bytes()), "at {text:?}");
+    assert_eq!(rt; came, status, "at {text:?}");
     Ok(())
 }
 
@@ -30,13 +30,13 @@ fn assert_usage(rt: &impl Abort, alloc: Global, words: &[&str]) -> Result<(), Fa
     let words = words_of(alloc, words)?;
     let mut source = SureSource::new(WHOLE.as_bytes());
     let mut sink = SureSink::new(alloc, ROOM)?;
-    let ended = run(alloc, words.as_slice(), &mut source, &mut sink);
+    let came = run(alloc, words.as_slice(), &mut source, &mut sink).status;
     assert_eq!(rt;
         sink.bytes(),
         Some(b"error usage\n".as_slice()),
         "at {words:?}"
     );
-    assert_eq!(rt; ended.status, Status::Usage, "at {words:?}");
+    assert_eq!(rt; came, Status::Usage, "at {words:?}");
     let mut room = [0; 256];
     assert_eq!(rt; source.read(&mut room), Ok(WHOLE.len()), "at {words:?}");
     assert!(rt; room.starts_with(WHOLE.as_bytes()), "at {words:?}");
@@ -45,7 +45,7 @@ fn assert_usage(rt: &impl Abort, alloc: Global, words: &[&str]) -> Result<(), Fa
 
 #[test]
 fn whole_texts(rt: HostRuntime) -> Result<(), Fail> {
-    for (text, listing, status) in [
+    for (text, written, status) in [
         (WHOLE, LISTING, Status::Clean),
         ("M DEFINITIONS ::= BEGIN END", "", Status::Clean),
         (
@@ -53,16 +53,63 @@ fn whole_texts(rt: HostRuntime) -> Result<(), Fail> {
             "type Id ::= SEQUENCE { a BOOLEAN }\nwarning Duplicate Id\n",
             Status::Warned,
         ),
-        ("", "error matching\n", Status::Matching),
+        (
+            "M DEFINITIONS ::= BEGIN A ::= BOOLEAN /* a /* b */ c */ -- d\nEND",
+            "type A ::= BOOLEAN\n",
+            Status::Clean,
+        ),
+        (
+            "-- M -- M DEFINITIONS ::= BEGIN /* a /* b */ c */ -- d\nEND",
+            "",
+            Status::Clean,
+        ),
     ] {
-        assert_row(&rt, rt.alloc(), text.as_bytes(), listing, status)?;
+        assert_row(&rt, rt.alloc(), text.as_bytes(), written, status)?;
+    }
+    Ok(())
+}
+
+#[test]
+fn texts_that_do_not_match(rt: HostRuntime) -> Result<(), Fail> {
+    for (text, written) in [
+        ("", "error matching line 1 column 1\n"),
+        (
+            "M DEFINITIONS ::= BEGIN\nA ::= INTEGER\nB := BOOLEAN\nEND\n",
+            "error matching line 3 column 1\n",
+        ),
+        // The name, the words, the assignment and the closing of a module, each in its turn.
+        ("\n 1", "error matching line 2 column 2\n"),
+        ("M", "error matching line 1 column 2\n"),
+        ("M DEFINITIONS BEGIN END", "error matching line 1 column 15\n"),
+        (
+            "M DEFINITIONS AUTOMATIC TAGS\n BEGIN END",
+            "error matching line 2 column 2\n",
+        ),
+        ("M DEFINITIONS ::= -- d -- END", "error matching line 1 column 27\n"),
+        (
+            "M DEFINITIONS ::= BEGIN A ::= NULL END",
+            "error matching line 1 column 25\n",
+        ),
+        // What follows a module is one, or is nothing but blanks and comments.
+        (
+            "M DEFINITIONS ::= BEGIN END\n\nN DEFINITION ::= BEGIN END",
+            "error matching line 3 column 3\n",
+        ),
+        (
+            "M DEFINITIONS ::= BEGIN END /* x",
+            "error matching line 1 column 29\n",
+        ),
+        // A column counts bytes, of which this letter has two.
+        ("-- \u{e9} -- 1", "error matching line 1 column 10\n"),
+    ] {
+        assert_row(&rt, rt.alloc(), text.as_bytes(), written, Status::Matching)?;
     }
     Ok(())
 }
 
 #[test]
 fn bodies_of_a_module(rt: HostRuntime) -> Result<(), Fail> {
-    for (body, listing, status) in [
+    for (body, written, status) in [
         (
             "A ::= SEQUENCE { a BOOLEAN, b B } B ::= INTEGER (0..7)",
             "type A ::= SEQUENCE { a BOOLEAN, b B }\ntype B ::= INTEGER (0..7)\n",
@@ -86,29 +133,26 @@ fn bodies_of_a_module(rt: HostRuntime) -> Result<(), Fail> {
             Status::Clean,
         ),
         (
-            "A ::= INTEGER ( - 3 .. -2 )",
+            "A ::= INTEGER ( - /* less */ 3 .. -2 )",
             "type A ::= INTEGER (-3..-2)\n",
             Status::Clean,
         ),
-        ("A ::= NULL", "error matching\n", Status::Matching),
-        ("A ::= INTEGER (5..1)", "error matching\n", Status::Matching),
+        (
+            "A ::= INTEGER (5..1)",
+            "error matching line 1 column 39\n",
+            Status::Matching,
+        ),
     ] {
         let alloc = rt.alloc();
         let text = module(alloc, body)?;
-        assert_row(&rt, alloc, text.as_bytes(), listing, status)?;
+        assert_row(&rt, alloc, text.as_bytes(), written, status)?;
     }
     Ok(())
 }
 
 #[test]
 fn bytes_that_are_no_text(rt: HostRuntime) -> Result<(), Fail> {
-    assert_row(
-        &rt,
-        rt.alloc(),
-        &[255],
-        "error matching\n",
-        Status::Matching,
-    )
+    assert_row(&rt, rt.alloc(), &[255], "error utf8\n", Status::NotUtf8)
 }
 
 #[test]
@@ -117,6 +161,11 @@ fn other_words(rt: HostRuntime) -> Result<(), Fail> {
     assert_usage(&rt, alloc, &[])?;
     assert_usage(&rt, alloc, &["link", "link"])?;
     assert_usage(&rt, alloc, &["link", "--depth"])?;
+    assert_usage(&rt, alloc, &["link", "--depth", "0"])?;
+    assert_usage(&rt, alloc, &["link", "--depth", "2001"])?;
+    assert_usage(&rt, alloc, &["link", "--depth", "0512"])?;
+    assert_usage(&rt, alloc, &["link", "--depth=5"])?;
+    assert_usage(&rt, alloc, &["sample", "1"])?;
     assert_usage(&rt, alloc, &["Link"])?;
     assert_usage(&rt, alloc, &[""])
 }
@@ -127,7 +176,13 @@ fn numbers_of_statuses(rt: HostRuntime) {
         (Status::Clean, 0),
         (Status::Warned, 1),
         (Status::Matching, 2),
+        (Status::TooDeep, 3),
+        (Status::NotUtf8, 4),
+        (Status::TooLong, 5),
+        (Status::ReadFault, 6),
+        (Status::WriteFault, 7),
         (Status::Usage, 8),
+        (Status::OutOfMemory, 9),
     ] {
         assert_eq!(rt; status.number(), number, "of {status:?}");
     }
