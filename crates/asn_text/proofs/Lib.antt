@@ -2,5 +2,6 @@ pub mod Failures
 pub mod Gaps
 pub mod Parts
 pub mod Positions
+pub mod Sameness
 pub mod Standing
 pub mod Tries

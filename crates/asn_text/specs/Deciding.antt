@@ -9,7 +9,8 @@ use Rattle.std.proofs.lemmas.Bool.Decides.{Decides-eqb}
 use Rattle.std.proofs.lemmas.Cmp.{on_equiv}
 use Rattle.std.proofs.lemmas.Slice.Eq.{slice_eq-Decides}
 use Rattle.asn_text.specs.Part.{Part, part_eq}
-use Rattle.asn_text.specs.Seen.{Kind, nom, external, Setting, name, of_kind, Link, Leaf, rank, nom_eq, kinds_eq, settings_eq, links_eq, leaves_eq, kind_seen, context_seen, link_seen, leaf_seen, misc_seen, kind_eq, context_eq, link_eq, leaf_eq, misc_eq}
+use Rattle.asn_text.specs.Seen.{Kind, nom, external, Setting, name, of_kind, Link, Leaf, rank, nom_eq, kinds_eq, settings_eq, links_eq, leaves_eq, kind_seen, context_seen, link_seen, leaf_seen, misc_seen, kind_eq, context_eq, link_eq, leaf_eq, misc_eq, Tree, leaf, branch, no_branch, one_branch, trees_eq, tree_seen, tree_eq}
+use Rattle.asn_text.specs.declared.errors.ErrorTree.{ErrorTree}
 use Rattle.asn_text.specs.declared.errors.NomKind.{NomKind}
 use Rattle.asn_text.specs.declared.errors.NomKind.TheVariants.{Alt, Eof, Tag, TakeUntil, Other}
 
@@ -123,3 +124,63 @@ leaf_eq_equivalence = on_equiv leaf_seen (decided leaves_eq leaves_Decide)
 
 pub misc_eq_equivalence : IsEquivalence misc_eq
 misc_eq_equivalence = on_equiv misc_seen (decided (pointwise nat_eq) texts_Decide)
+
+-- the place of a form in their order
+form : Tree → ℕ
+form (leaf p k) = 0
+form (branch tip links) = 1
+form no_branch = 2
+form (one_branch tree rest) = 3
+
+mismatch : (a b : Tree) → nat_eq (form a) (form b) ≡ false → Decides false (a ≡ b)
+mismatch a b f = (λ h. absurd (true≢false (sym h)), λ e. sym f ∙ (Decides-eqb (form a) (form b)).1 (ap form e))
+
+part_in : Tree → Part → Part
+part_in (leaf p k) q = p
+part_in (branch tip links) q = q
+part_in no_branch q = q
+part_in (one_branch tree rest) q = q
+
+kind_in : Tree → Kind
+kind_in (leaf p k) = k
+kind_in (branch tip links) = external []
+kind_in no_branch = external []
+kind_in (one_branch tree rest) = external []
+
+links_in : Tree → List Link
+links_in (leaf p k) = []
+links_in (branch tip links) = links
+links_in no_branch = []
+links_in (one_branch tree rest) = []
+
+first_in : Tree → Tree
+first_in (leaf p k) = no_branch
+first_in (branch tip links) = tip
+first_in no_branch = no_branch
+first_in (one_branch tree rest) = tree
+
+rest_in : Tree → Tree
+rest_in (leaf p k) = no_branch
+rest_in (branch tip links) = no_branch
+rest_in no_branch = no_branch
+rest_in (one_branch tree rest) = rest
+
+trees_Decide : (a b : Tree) → Decides (trees_eq a b) (a ≡ b)
+unfolding form part_in kind_in links_in first_in rest_in
+trees_Decide (leaf p k) (leaf q l) =
+    let d = both_Decides _ _ (parts_Decide p q) (kinds_Decide k l) in
+    (λ h. let e = d.0 h in λ i. leaf (e.0 i) (e.1 i), λ e. d.1 (ap (λ t. part_in t p) e, ap kind_in e))
+trees_Decide (branch a links) (branch b others) =
+    let d = both_Decides _ _ (trees_Decide a b) (slice_eq-Decides links_Decide links others (pointwise links_eq links others) refl) in
+    (λ h. let e = d.0 h in λ i. branch (e.0 i) (e.1 i), λ e. d.1 (ap first_in e, ap links_in e))
+trees_Decide no_branch no_branch = (λ h. refl, λ e. refl)
+trees_Decide (one_branch a rest) (one_branch b others) =
+    let d = both_Decides _ _ (trees_Decide a b) (trees_Decide rest others) in
+    (λ h. let e = d.0 h in λ i. one_branch (e.0 i) (e.1 i), λ e. d.1 (ap first_in e, ap rest_in e))
+trees_Decide a b = mismatch a b refl
+
+pub tree_eq_equivalence : IsEquivalence tree_eq
+tree_eq_equivalence = on_equiv tree_seen (decided trees_eq trees_Decide)
+
+pub tree_eq_decides : (a b : ErrorTree) → Decides (tree_eq a b) (tree_seen a ≡ tree_seen b)
+tree_eq_decides a b = trees_Decide (tree_seen a) (tree_seen b)

@@ -1,6 +1,6 @@
 -- What errors tell, with each text as its bytes and each input as the part that it shows. `==` compares this.
 use Rattle.std.specs.Cmp.Lexicographic.{pointwise}
-use Rattle.std.specs.Prelude.{ℕ, Bool, false, ◌&&◌, nat_eq, List}
+use Rattle.std.specs.Prelude.{ℕ, Bool, true, false, ◌&&◌, nat_eq, List, [], ◌∷◌, map}
 use Rattle.asn_text.specs.Part.{Part, part_eq}
 use Rattle.asn_text.specs.Input.{part_of}
 use Rattle.asn_text.specs.declared.errors.NomKind.{NomKind}
@@ -12,6 +12,7 @@ use Rattle.asn_text.specs.declared.errors.Context.TheVariants as context
 use Rattle.asn_text.specs.declared.errors.ErrorLink.{ErrorLink}
 use Rattle.asn_text.specs.declared.errors.ErrorLeaf.{ErrorLeaf}
 use Rattle.asn_text.specs.declared.errors.MiscError.{MiscError}
+use Rattle.asn_text.specs.declared.errors.ErrorTree.{ErrorTree, ErrorTree-F, fold-ErrorTree}
 
 pub data Kind : Type 0 where
   nom : NomKind → Kind
@@ -89,3 +90,32 @@ leaf_eq a b = leaves_eq (leaf_seen a) (leaf_seen b)
 
 abbrev pub misc_eq : MiscError → MiscError → Bool
 misc_eq a b = pointwise nat_eq (misc_seen a) (misc_seen b)
+
+-- a tree; the branches of a fork stand one before the others, and the last before none
+pub data Tree : Type 0 where
+  leaf : Part → Kind → Tree
+  branch : Tree → List Link → Tree
+  no_branch : Tree
+  one_branch : Tree → Tree → Tree
+
+abbrev pub forked : List Tree → Tree
+forked [] = no_branch
+forked (tree ∷ trees) = one_branch tree (forked trees)
+
+abbrev pub seen_step : ErrorTree-F Tree → Tree
+seen_step (ErrorTree-F.Leaf input kind) = leaf (part_of input) (kind_seen kind)
+seen_step (ErrorTree-F.Branch tip links) = branch tip (map link_seen links)
+seen_step (ErrorTree-F.Fork branches) = forked branches
+
+unfoldable pub tree_seen : ErrorTree → Tree
+tree_seen = fold-ErrorTree Tree seen_step
+
+abbrev pub trees_eq : Tree → Tree → Bool
+trees_eq (leaf p k) (leaf q l) = part_eq p q && kinds_eq k l
+trees_eq (branch a links) (branch b others) = trees_eq a b && pointwise links_eq links others
+trees_eq no_branch no_branch = true
+trees_eq (one_branch a rest) (one_branch b others) = trees_eq a b && trees_eq rest others
+trees_eq a b = false
+
+abbrev pub tree_eq : ErrorTree → ErrorTree → Bool
+tree_eq a b = trees_eq (tree_seen a) (tree_seen b)

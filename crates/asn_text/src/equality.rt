@@ -1,9 +1,9 @@
 //! `==` of what errors are made of: true exactly where both tell the same.
 
-ghost use Rattle.std.specs.Prelude.{◌≡◌};
-ghost use Rattle.asn_text.specs.Seen.{rank};
+ghost use Rattle.std.specs.Prelude.{◌≡◌, map};
+ghost use Rattle.asn_text.specs.Seen.{rank, forked, tree_seen, trees_eq};
 
-use crate::errors::{Context, ErrorKind, ErrorLeaf, ErrorLink, MiscError, NomKind};
+use crate::errors::{Context, ErrorKind, ErrorLeaf, ErrorLink, ErrorTree, MiscError, NomKind};
 
 impl PartialEq for NomKind {
     ghost use Rattle.std.specs.Cmp.{partial_equiv_from_equiv};
@@ -174,4 +174,80 @@ impl Eq for MiscError {
     ghost use Rattle.asn_text.specs.Deciding.{misc_eq_equivalence};
 
     ghost laws = { misc_eq_equivalence };
+}
+
+impl PartialEq for ErrorTree<'_> {
+    ghost use Rattle.std.specs.Cmp.{partial_equiv_from_equiv};
+    ghost use Rattle.std.specs.Prelude.{◌≡◌, ◌↔◌, IsTrue};
+    ghost use Rattle.asn_text.specs.Seen.{tree_eq, tree_seen};
+    ghost use Rattle.asn_text.specs.Deciding.{tree_eq_equivalence, tree_eq_decides};
+
+    ghost eq = { tree_eq };
+
+    ghost laws = { partial_equiv_from_equiv tree_eq_equivalence };
+
+    /// Whether both tell the same.
+    #[tactic(auto, using(crate::specs::Deciding::tree_eq_decides))]
+    fn eq(&self, other: &Self) -> bool
+        ensures gives { result ≡ tree_eq self.now other.now }
+        ensures same { IsTrue result ↔ (tree_seen self.now ≡ tree_seen other.now) }
+    {
+        same_tree(self, other)
+    }
+}
+
+impl Eq for ErrorTree<'_> {
+    ghost use Rattle.asn_text.specs.Deciding.{tree_eq_equivalence};
+
+    ghost laws = { tree_eq_equivalence };
+}
+
+/// Whether two trees tell the same.
+#[cycle(same)]
+fn same_tree(one: &ErrorTree<'_>, another: &ErrorTree<'_>) -> bool
+    ensures { result ≡ trees_eq (tree_seen one.now) (tree_seen another.now) }
+{
+    match one {
+        ErrorTree::Leaf { input, kind } => match another {
+            ErrorTree::Leaf {
+                input: place,
+                kind: reason,
+            } => input == place && kind == reason,
+            ErrorTree::Branch { .. } => false,
+            ErrorTree::Fork { .. } => false,
+        },
+        ErrorTree::Branch { tip, links } => match another {
+            ErrorTree::Leaf { .. } => false,
+            ErrorTree::Branch {
+                tip: root,
+                links: others,
+            } => same_tree(tip.get(), root.get()) && links.as_slice() == others.as_slice(),
+            ErrorTree::Fork { .. } => false,
+        },
+        ErrorTree::Fork { branches } => match another {
+            ErrorTree::Leaf { .. } => false,
+            ErrorTree::Branch { .. } => false,
+            ErrorTree::Fork { branches: others } => {
+                same_trees(branches.as_slice(), others.as_slice())
+            }
+        },
+    }
+}
+
+/// Whether two lists of trees tell the same, one by one.
+#[cycle(same)]
+fn same_trees(some: &[ErrorTree<'_>], others: &[ErrorTree<'_>]) -> bool
+    ensures { result ≡ trees_eq (forked (map tree_seen some.now)) (forked (map tree_seen others.now)) }
+{
+    if some.len() != others.len() {
+        return false;
+    }
+    let mut i = 0;
+    while i < some.len() {
+        if !same_tree(&some[i], &others[i]) {
+            return false;
+        }
+        i += 1;
+    }
+    true
 }

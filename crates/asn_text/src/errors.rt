@@ -58,7 +58,7 @@ pub type ErrorLinks<'a> = AtLeastOne<ErrorLink<'a>>;
 pub type ErrorBranches<'a> = AtLeastOne<ErrorTree<'a>>;
 
 /// Why a reader fails.
-#[derive(PartialEq, Drop)]
+#[derive(Drop)]
 pub enum ErrorTree<'a> {
     /// A place and a reason.
     Leaf {
