@@ -1,11 +1,11 @@
 -- A text that the grammar fails on has a due place.
-use Rattle.std.proofs.Common.{◌≡◌, ℕ, ◌+◌, ◌<◌, ◌≤◌, max, List, [], ◌∷◌, true, length, refl, sym, ap, ◌∙◌, subst, arith, ◌⊎◌, inl, inr}
+use Rattle.std.proofs.Common.{◌≡◌, ℕ, ◌+◌, ◌<◌, ◌≤◌, max, List, [], ◌∷◌, length, refl, sym, subst, arith, ◌⊎◌, inl, inr}
 use Rattle.std.specs.Prelude.{codes}
-use Rattle.asn_rules.specs.Expression.{Expression, see, seq, choice, many, never, guarded, rule, skip, rule_of}
+use Rattle.asn_rules.specs.Expression.{Expression, seq, choice, many, never, rule, skip, rule_of}
 use Rattle.asn_rules.specs.First.{first, further}
 use Rattle.asn_rules.specs.Forms.{literal, keyword, letter, any, some}
 use Rattle.asn_rules.specs.LexicalRules.{lexical_rules_before}
-use Rattle.asn_rules.specs.Runs.{Ending, ends, fails, Runs, sees, seq_ends, seq_fails, choice_first, choice_second, many_turn, many_idle, many_fails, never_ends, never_fails, guard_judges, guard_fails, calls, skips}
+use Rattle.asn_rules.specs.Runs.{Ending, ends, fails, Runs, sees, seq_ends, seq_fails, choice_second, many_turn, many_idle, many_fails, never_fails, calls, skips}
 use Rattle.asn_rules.specs.Valid.{Fails}
 use Rattle.asn_rules.specs.Due.{Comes, Stop, all_stand, lacks, Through, at_end, missing, standing, before, itself, parts, IsDue, due_here, due_later}
 use Rattle.asn_rules.specs.declared.due.ModulePart.{ModulePart}

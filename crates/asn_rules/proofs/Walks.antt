@@ -1,12 +1,12 @@
 -- What a walk over modules comes to.
-use Rattle.std.proofs.Common.{◌≡◌, ℕ, ◌+◌, ◌<◌, ◌≤◌, max, List, [], ◌∷◌, Ok, Err, length, drop, refl, sym, ap, ◌∙◌, subst, arith, ◌⊎◌, inl, inr}
+use Rattle.std.proofs.Common.{◌≡◌, ℕ, ◌<◌, ◌≤◌, List, [], ◌∷◌, Ok, Err, length, refl, sym, ap, ◌∙◌, subst, arith}
 use Rattle.std.specs.Prelude.{Bool, true, false, nat_lt}
 use Rattle.std.proofs.lemmas.Bool.Decides.{Decides-ltb}
 use Rattle.std.specs.Prelude.{Option, Some, None, IsSome}
 use Rattle.asn_rules.specs.Attempts.{Found, IsFollowed}
 use Rattle.asn_rules.specs.declared.due.DuePlace.{DuePlace}
 use Rattle.asn_rules.specs.Expression.{Expression, skip}
-use Rattle.asn_rules.specs.Runs.{Ending, ends, fails, Runs, Answer}
+use Rattle.asn_rules.specs.Runs.{Ending, ends, fails}
 use Rattle.asn_rules.specs.Answer.{answer, IsWithin}
 use Rattle.asn_rules.specs.Due.{Comes, Stop, all_stand, lacks, Through, at_end, missing, standing, before, itself, parts, IsDue, due_here, due_later}
 use Rattle.asn_rules.specs.declared.names.TheConstants.{SP}

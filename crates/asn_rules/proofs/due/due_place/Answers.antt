@@ -1,9 +1,6 @@
-use Rattle.std.proofs.Common.{◌≤◌, ◌≡◌, ℕ, None, arith}
-use Rattle.std.specs.Prelude.{IsSome}
+use Rattle.std.proofs.Common.{arith}
 use Rattle.asn_rules.specs.First.{first}
-use Rattle.asn_rules.specs.Attempts.{Found}
-use Rattle.asn_rules.specs.Due.{IsDue, due_later}
-use Rattle.asn_rules.specs.declared.due.ModulePart.{ModulePart}
+use Rattle.asn_rules.specs.Due.{due_later}
 use Rattle.asn_rules.proofs.Modules.{fails_due, parts_take}
 use Rattle.asn_rules.proofs.Walks.{due_behind, deep_module, carried, is_found}
 use Rattle.asn_rules.proofs.due.due_place.Goals as goal

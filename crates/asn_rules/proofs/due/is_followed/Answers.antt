@@ -1,5 +1,3 @@
-use Rattle.std.proofs.Common.{◌≡◌, ◌<◌, ℕ, true, false, length, refl}
-use Rattle.std.specs.Prelude.{Bool, nat_lt}
 use Rattle.asn_rules.specs.First.{first}
 use Rattle.asn_rules.proofs.Walks.{followed, fails_never}
 use Rattle.asn_rules.proofs.due.is_followed.Goals as goal

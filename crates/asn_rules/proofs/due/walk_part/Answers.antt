@@ -1,6 +1,5 @@
-use Rattle.std.proofs.Common.{ap, subst, arith, ◌≤◌}
+use Rattle.std.proofs.Common.{arith}
 use Rattle.asn_rules.specs.First.{first}
-use Rattle.asn_rules.specs.Attempts.{Came}
 use Rattle.asn_rules.specs.Due.{missing}
 use Rattle.asn_rules.proofs.Walks.{part_stands, before_never, before_fails, itself_never}
 use Rattle.asn_rules.proofs.due.walk_part.Goals as goal

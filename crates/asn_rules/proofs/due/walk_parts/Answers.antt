@@ -1,4 +1,4 @@
-use Rattle.std.proofs.Common.{sym, subst, drop, ◌+◌, ◌<◌, length, arith}
+use Rattle.std.proofs.Common.{sym, subst, arith}
 use Rattle.std.proofs.lemmas.List.{drop_more, drop_all}
 use Rattle.asn_rules.specs.First.{first}
 use Rattle.asn_rules.specs.Due.{Through, lacks, all_stand, at_end}
