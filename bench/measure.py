@@ -2,7 +2,8 @@
 """Times a program on growing texts, and prints tables: measure.py PROGRAM.
 
 The first table is over texts of 10 KB, 100 KB and 1 MB of all forms, the second over chains of 1,000, 10,000 and
-100,000 definitions, each of which names the next: looking names up takes the most time there.
+100,000 definitions, each of which names the next: looking names up takes the most time there. The third is over texts of
+100 KB and 1 MB that are nearly all blanks, comments, one name, or comments that are not closed.
 
 run.sh calls it. The best of five runs counts. Peak memory is that of one further run, as GNU time tells it.
 """
@@ -14,10 +15,12 @@ import tempfile
 import time
 
 from make_chain import chain
+from make_lexical import KINDS
 from make_text import text
 
 SIZES = (10_000, 100_000, 1_000_000)
 NAMES = (1_000, 10_000, 100_000)
+LEXICAL_SIZES = (100_000, 1_000_000)
 RUNS = 5
 GNU_TIME = "/usr/bin/time"
 # Clean, and with warnings: the two statuses of a text that was read and linked.
@@ -69,6 +72,15 @@ def print_table(rows):
         print("a status beside 0 and 1: the text was not read, and the row says nothing of its linking")
 
 
+def print_lexical_table(command, folder):
+    """Two rows for each lexical kind. A status of 2 or 3 is that of comments which are not closed."""
+    print(f"{'kind':>22} {'bytes':>9} {'status':>6} {'best ms':>9} {'ns a byte':>9}")
+    for kind, make in KINDS.items():
+        for size in LEXICAL_SIZES:
+            length, status, best, _ = row(command, make(size), folder)
+            print(f"{kind:>22} {length:>9} {status:>6} {best * 1e3:>9.2f} {best * 1e9 / length:>9.1f}")
+
+
 def main():
     if len(sys.argv) != 2:
         sys.exit("usage: measure.py PROGRAM")
@@ -78,6 +90,8 @@ def main():
         print()
         print("chains of", ", ".join(f"{count:,}" for count in NAMES), "definitions")
         print_table([row(command, chain(count), folder) for count in NAMES])
+        print()
+        print_lexical_table(command, folder)
 
 
 if __name__ == "__main__":
