@@ -1,6 +1,6 @@
 //! The trees that a run hands out.
 
-use crate::parts::range_in;
+use asn_copy_tests::parts::range_in;
 use asn_run_tests::texts::{WHOLE, words_of};
 use asn_tool::{Ended, SureSink, SureSource, run};
 use asn_tree::{TaggingEnvironment, ToplevelDefinition};

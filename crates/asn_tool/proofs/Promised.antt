@@ -1,8 +1,7 @@
 -- What the course of a run and the delivery of what it writes promise.
-use Rattle.std.proofs.Common.{◌≡◌, ◌<◌, ◌≤◌, ◌⊎◌, inl, inr, ℕ, List, Option, Some, None, Err, length, refl, sym, ap, ◌∙◌, subst, arith}
+use Rattle.std.proofs.Common.{◌≡◌, ◌<◌, ◌⊎◌, inl, inr, ℕ, List, Option, Some, None, length, refl, sym, ap, ◌∙◌, subst, arith}
 use Rattle.std.specs.Prelude.{IfSome, String}
 use Rattle.std.specs.Global.{Global}
-use Rattle.std.specs.Str.{IsUtf8}
 use Rattle.asn_check.specs.declared.linked.Linked.{Linked}
 use Rattle.asn_check.specs.Linked.{IsLinkedOf}
 use Rattle.asn_modules.specs.Whole.{IsReading}
@@ -10,7 +9,7 @@ use Rattle.asn_names.specs.Definitions.{Module, definitions_of, see, type_of}
 use Rattle.asn_names.specs.Meaning.{IsPlain}
 use Rattle.asn_rules.specs.Expression.{rule}
 use Rattle.asn_rules.specs.First.{first}
-use Rattle.asn_rules.specs.Runs.{Ending, ends, fails, Runs, ExactlyOne}
+use Rattle.asn_rules.specs.Runs.{Ending, ends, fails, ExactlyOne}
 use Rattle.asn_rules.specs.Valid.{Fails, IsDeeper, IsValid}
 use Rattle.asn_tool.specs.declared.ended.Ended.{Ended}
 use Rattle.asn_tool.specs.declared.status.Status.{Status}
@@ -18,7 +17,7 @@ use Rattle.asn_tool.specs.declared.status.Status.TheVariants.{Clean, Warned, Mat
 use Rattle.asn_tool.specs.Faults.{HasCause}
 use Rattle.asn_tool.specs.Headline.{IsListing, MeansWhatIsRead, Prints, SaysAlone, SaysPlace, Decides}
 use Rattle.asn_tool.specs.Lines.{depth_line}
-use Rattle.asn_tool.specs.Run.{IsTaken, IsTooLong, IsNoUtf8, IsTooDeep, IsUnmatched, IsValidText, NoTrees, HasTrees, TellsPlace, AreKnown, OfTaken, Comes, Course, or_nothing, Delivered, Ends}
+use Rattle.asn_tool.specs.Run.{IsTaken, IsTooLong, IsNoUtf8, IsTooDeep, IsUnmatched, IsValidText, NoTrees, HasTrees, AreKnown, OfTaken, Course, Delivered, Ends}
 use Rattle.asn_tool.specs.Sink.{Takes}
 use Rattle.asn_tool.specs.Status.{line}
 use Rattle.asn_tool.specs.Taking.{limit}

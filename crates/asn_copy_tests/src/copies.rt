@@ -1,8 +1,6 @@
 //! Copies of what a text is read as, each call once.
 
 use crate::parts::{ends_of, first_definition, integer_in, range_in, range_of, sequence_in};
-use crate::readings::reading_of;
-use asn_run_tests::texts::WHOLE;
 use asn_copy::{
     copy_asn1_type, copy_asn1_value, copy_boolean, copy_constraint, copy_declaration_elsewhere,
     copy_element_or_set_operation, copy_element_set, copy_integer, copy_list,
@@ -10,12 +8,22 @@ use asn_copy::{
     copy_subtype_element, copy_text, copy_toplevel_definition, copy_toplevel_type_definition,
 };
 use asn_tree::{
-    ASN1Type, ASN1Value, Constraint, ElementOrSetOperation, ElementSet, TaggingEnvironment,
+    ASN1Type, ASN1Value, Constraint, ElementOrSetOperation, ElementSet, Reading, TaggingEnvironment,
 };
+use asn_modules::{SpecError, asn_spec};
+use std::alloc::Global;
 use std::test::Fail;
+
+// A module of one INTEGER with a range.
+const WHOLE: &str =
+    "TestModule DEFINITIONS AUTOMATIC TAGS::= BEGIN My-test-integer ::= INTEGER (1..128) END";
 
 // A SEQUENCE of a BOOLEAN and a type reference.
 const SEQUENCE: &str = "M DEFINITIONS ::= BEGIN A ::= SEQUENCE { a BOOLEAN, b B } END";
+
+fn reading_of(alloc: Global, text: &str) -> Result<Reading, SpecError> {
+    asn_spec(alloc, text, 512)
+}
 
 #[test]
 fn of_readings(rt: HostRuntime) -> Result<(), Fail> {
