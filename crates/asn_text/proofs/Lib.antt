@@ -5,3 +5,4 @@ pub mod Positions
 pub mod Sameness
 pub mod Standing
 pub mod Tries
+pub mod Walks

@@ -1,7 +1,5 @@
 -- The comparison of trees of errors, form by form and branch by branch.
-use Rattle.std.proofs.Common.{◌≡◌, ◌≢◌, ℕ, suc, ◌+◌, ◌<◌, ◌≤◌, List, [], ◌∷◌, map, Bool, true, false, length, get_or, drop, refl, sym, ap, ◌∙◌, arith, add-one}
-use Rattle.std.proofs.Math.Seq.{drop-cons}
-use Rattle.std.proofs.Math.ListN.{drop_of_length-le}
+use Rattle.std.proofs.Common.{◌≡◌, ◌≢◌, List, [], ◌∷◌, map, Bool, true, false, length, refl, sym, ap, ◌∙◌, arith}
 use Rattle.std.specs.Prelude.{◌&&◌}
 use Rattle.std.specs.Cmp.Lexicographic.{pointwise}
 use Rattle.asn_text.specs.Part.{Part}
@@ -30,21 +28,6 @@ all_differ (a ∷ some) [] differ = refl
 all_differ (a ∷ some) (b ∷ others) differ =
     ap (λ rest. trees_eq (tree_seen a) (tree_seen b) && rest) (all_differ some others (λ e. differ (omega (arith, e))))
     ∙ and_false (trees_eq (tree_seen a) (tree_seen b))
-
-at_place : (xs : List ErrorTree) (i : ℕ) (x : ErrorTree) → i < length xs → x ≡ get_or xs i x → drop i xs ≡ x ∷ drop (i + 1) xs
-at_place xs i x within is =
-    drop-cons xs i x within ∙ ap (λ y. y ∷ drop (suc i) xs) (sym is) ∙ ap (λ n. x ∷ drop n xs) (sym (add-one i))
-
--- one by one
-pub all_step : (some others : List ErrorTree) (i : ℕ) (a b : ErrorTree) → i < length some → i < length others → a ≡ get_or some i a → b ≡ get_or others i b → all_eq (drop i some) (drop i others) ≡ (trees_eq (tree_seen a) (tree_seen b) && all_eq (drop (i + 1) some) (drop (i + 1) others))
-all_step some others i a b within within' is is' =
-    ap (λ xs. all_eq xs (drop i others)) (at_place some i a within is)
-    ∙ ap (λ ys. all_eq (a ∷ drop (i + 1) some) ys) (at_place others i b within' is')
-
-pub all_ended : (some others : List ErrorTree) (i : ℕ) → length some ≤ i → length others ≤ i → all_eq (drop i some) (drop i others) ≡ true
-all_ended some others i past past' =
-    ap (λ xs. all_eq xs (drop i others)) (drop_of_length-le some past)
-    ∙ ap (λ ys. all_eq [] ys) (drop_of_length-le others past')
 
 -- links are compared by what they tell
 pub links_seen : (links others : List ErrorLink) → pointwise link_eq links others ≡ pointwise links_eq (map link_seen links) (map link_seen others)

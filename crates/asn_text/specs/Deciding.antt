@@ -9,8 +9,9 @@ use Rattle.std.proofs.lemmas.Bool.Decides.{Decides-eqb}
 use Rattle.std.proofs.lemmas.Cmp.{on_equiv}
 use Rattle.std.proofs.lemmas.Slice.Eq.{slice_eq-Decides}
 use Rattle.asn_text.specs.Part.{Part, part_eq}
-use Rattle.asn_text.specs.Seen.{Kind, nom, external, Setting, name, of_kind, Link, Leaf, rank, nom_eq, kinds_eq, settings_eq, links_eq, leaves_eq, kind_seen, context_seen, link_seen, leaf_seen, misc_seen, kind_eq, context_eq, link_eq, leaf_eq, misc_eq, Tree, leaf, branch, no_branch, one_branch, trees_eq, tree_seen, tree_eq}
+use Rattle.asn_text.specs.Seen.{Kind, nom, external, Setting, name, of_kind, Link, Leaf, rank, nom_eq, kinds_eq, settings_eq, links_eq, leaves_eq, kind_seen, context_seen, link_seen, leaf_seen, misc_seen, kind_eq, context_eq, link_eq, leaf_eq, misc_eq, Tree, leaf, branch, no_branch, one_branch, trees_eq, tree_seen, tree_eq, Failing, failing, too_deep, out_of_memory, faults_eq, fault_seen, fault_eq}
 use Rattle.asn_text.specs.declared.errors.ErrorTree.{ErrorTree}
+use Rattle.asn_text.specs.declared.fault.ParseFault.{ParseFault}
 use Rattle.asn_text.specs.declared.errors.NomKind.{NomKind}
 use Rattle.asn_text.specs.declared.errors.NomKind.TheVariants.{Alt, Eof, Tag, TakeUntil, Other}
 
@@ -184,3 +185,30 @@ tree_eq_equivalence = on_equiv tree_seen (decided trees_eq trees_Decide)
 
 pub tree_eq_decides : (a b : ErrorTree) → Decides (tree_eq a b) (tree_seen a ≡ tree_seen b)
 tree_eq_decides a b = trees_Decide (tree_seen a) (tree_seen b)
+
+-- the place of a fault in their order
+order : Failing → ℕ
+order (failing tree) = 0
+order too_deep = 1
+order out_of_memory = 2
+
+tree_in : Failing → Tree
+tree_in (failing tree) = tree
+tree_in too_deep = no_branch
+tree_in out_of_memory = no_branch
+
+other_fault : (a b : Failing) → nat_eq (order a) (order b) ≡ false → Decides false (a ≡ b)
+other_fault a b f = (λ h. absurd (true≢false (sym h)), λ e. sym f ∙ (Decides-eqb (order a) (order b)).1 (ap order e))
+
+faults_Decide : (a b : Failing) → Decides (faults_eq a b) (a ≡ b)
+unfolding order tree_in
+faults_Decide (failing a) (failing b) = (λ h. ap failing ((trees_Decide a b).0 h), λ e. (trees_Decide a b).1 (ap tree_in e))
+faults_Decide too_deep too_deep = (λ h. refl, λ e. refl)
+faults_Decide out_of_memory out_of_memory = (λ h. refl, λ e. refl)
+faults_Decide a b = other_fault a b refl
+
+pub fault_eq_equivalence : IsEquivalence fault_eq
+fault_eq_equivalence = on_equiv fault_seen (decided faults_eq faults_Decide)
+
+pub fault_eq_decides : (a b : ParseFault) → Decides (fault_eq a b) (fault_seen a ≡ fault_seen b)
+fault_eq_decides a b = faults_Decide (fault_seen a) (fault_seen b)

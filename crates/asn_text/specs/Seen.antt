@@ -13,6 +13,8 @@ use Rattle.asn_text.specs.declared.errors.ErrorLink.{ErrorLink}
 use Rattle.asn_text.specs.declared.errors.ErrorLeaf.{ErrorLeaf}
 use Rattle.asn_text.specs.declared.errors.MiscError.{MiscError}
 use Rattle.asn_text.specs.declared.errors.ErrorTree.{ErrorTree, ErrorTree-F, fold-ErrorTree}
+use Rattle.asn_text.specs.declared.fault.ParseFault.{ParseFault}
+use Rattle.asn_text.specs.declared.fault.ParseFault.TheVariants.{Fail, TooDeep, OutOfMemory}
 
 pub data Kind : Type 0 where
   nom : NomKind → Kind
@@ -119,3 +121,23 @@ trees_eq a b = false
 
 abbrev pub tree_eq : ErrorTree → ErrorTree → Bool
 tree_eq a b = trees_eq (tree_seen a) (tree_seen b)
+
+-- why a reader gives nothing
+pub data Failing : Type 0 where
+  failing : Tree → Failing
+  too_deep : Failing
+  out_of_memory : Failing
+
+abbrev pub fault_seen : ParseFault → Failing
+fault_seen (Fail tree) = failing (tree_seen tree)
+fault_seen TooDeep = too_deep
+fault_seen OutOfMemory = out_of_memory
+
+abbrev pub faults_eq : Failing → Failing → Bool
+faults_eq (failing a) (failing b) = trees_eq a b
+faults_eq too_deep too_deep = true
+faults_eq out_of_memory out_of_memory = true
+faults_eq a b = false
+
+abbrev pub fault_eq : ParseFault → ParseFault → Bool
+fault_eq a b = faults_eq (fault_seen a) (fault_seen b)

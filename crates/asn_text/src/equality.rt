@@ -4,6 +4,7 @@ ghost use Rattle.std.specs.Prelude.{◌≡◌, map};
 ghost use Rattle.asn_text.specs.Seen.{rank, forked, tree_seen, trees_eq};
 
 use crate::errors::{Context, ErrorKind, ErrorLeaf, ErrorLink, ErrorTree, MiscError, NomKind};
+use crate::fault::ParseFault;
 
 impl PartialEq for NomKind {
     ghost use Rattle.std.specs.Cmp.{partial_equiv_from_equiv};
@@ -180,7 +181,7 @@ impl PartialEq for ErrorTree<'_> {
     ghost use Rattle.std.specs.Cmp.{partial_equiv_from_equiv};
     ghost use Rattle.std.specs.Prelude.{◌≡◌, ◌↔◌, IsTrue};
     ghost use Rattle.asn_text.specs.Seen.{tree_eq, tree_seen};
-    ghost use Rattle.asn_text.specs.Deciding.{tree_eq_equivalence, tree_eq_decides};
+    ghost use Rattle.asn_text.specs.Deciding.{tree_eq_equivalence};
 
     ghost eq = { tree_eq };
 
@@ -200,6 +201,48 @@ impl Eq for ErrorTree<'_> {
     ghost use Rattle.asn_text.specs.Deciding.{tree_eq_equivalence};
 
     ghost laws = { tree_eq_equivalence };
+}
+
+impl PartialEq for ParseFault<'_> {
+    ghost use Rattle.std.specs.Cmp.{partial_equiv_from_equiv};
+    ghost use Rattle.std.specs.Prelude.{◌≡◌, ◌↔◌, IsTrue};
+    ghost use Rattle.asn_text.specs.Seen.{fault_eq, fault_seen};
+    ghost use Rattle.asn_text.specs.Deciding.{fault_eq_equivalence};
+
+    ghost eq = { fault_eq };
+
+    ghost laws = { partial_equiv_from_equiv fault_eq_equivalence };
+
+    /// Whether both tell the same.
+    #[tactic(auto, using(crate::specs::Deciding::fault_eq_decides))]
+    fn eq(&self, other: &Self) -> bool
+        ensures gives { result ≡ fault_eq self.now other.now }
+        ensures same { IsTrue result ↔ (fault_seen self.now ≡ fault_seen other.now) }
+    {
+        match self {
+            ParseFault::Fail(tree) => match other {
+                ParseFault::Fail(another) => tree == another,
+                ParseFault::TooDeep => false,
+                ParseFault::OutOfMemory => false,
+            },
+            ParseFault::TooDeep => match other {
+                ParseFault::Fail(_) => false,
+                ParseFault::TooDeep => true,
+                ParseFault::OutOfMemory => false,
+            },
+            ParseFault::OutOfMemory => match other {
+                ParseFault::Fail(_) => false,
+                ParseFault::TooDeep => false,
+                ParseFault::OutOfMemory => true,
+            },
+        }
+    }
+}
+
+impl Eq for ParseFault<'_> {
+    ghost use Rattle.asn_text.specs.Deciding.{fault_eq_equivalence};
+
+    ghost laws = { fault_eq_equivalence };
 }
 
 /// Whether two trees tell the same.

@@ -6,7 +6,7 @@ use crate::errors::{ErrorKind, ErrorTree};
 use crate::input::Input;
 
 /// Why a reader gives nothing.
-#[derive(PartialEq, Drop)]
+#[derive(Drop)]
 pub enum ParseFault<'a> {
     /// The text is not what the reader reads.
     Fail(ErrorTree<'a>),

@@ -40,4 +40,4 @@ pub use readers::{
     uppercase_identifier, value_identifier,
 };
 pub use report::{LexerError, LexerErrorType, ReportData};
-pub use until::{take_until_and_not, take_until_or, take_until_unbalanced};
+pub use until::{one_course, take_until_and_not, take_until_or, take_until_unbalanced};

@@ -1,11 +1,11 @@
 //! Texts up to a tag: the calls that walk over an input from the left and stop where a tag stands.
 
-ghost use Rattle.std.specs.Prelude.{◌≡◌, ◌+◌, ◌<◌, ◌≤◌, codes, length, IfOk, IfErr, IfSome, MatchOption, IsTrue, suc};
+ghost use Rattle.std.specs.Prelude.{ℕ, List, ◌≡◌, ◌+◌, ◌<◌, ◌≤◌, codes, length, IfOk, IfErr, IfSome, MatchOption, IsTrue, suc};
 ghost use Rattle.std.specs.Str.{IsCharBoundary};
 ghost use Rattle.asn_text.specs.Fault.{FailsAt};
 ghost use Rattle.asn_text.specs.Input.{part_of};
 ghost use Rattle.asn_text.specs.Part.{shown};
-ghost use Rattle.asn_text.specs.Until.{stands_at, StopsAt, NeverStops, StopsWith, until_either, until_unbalanced, until_and_not, closing_step, walker_of, IsTag, AreTags, IsWithin};
+ghost use Rattle.asn_text.specs.Until.{Walker, stands_at, StopsAt, NeverStops, StopsWith, until_either, until_unbalanced, until_and_not, closing_step, walker_of, IsTag, AreTags, IsWithin};
 
 use crate::fault::{ParserResult, fails};
 use crate::input::Input;
@@ -56,6 +56,13 @@ pub fn take_until_and_not<'a>(
     let sought = Sought::AndNot(tag(end_tag), tag(however_tag));
     take_until(input, &sought, "take_until_and_not")
 }
+
+/// A law: a walk stops at one place at most, and does not stop where it comes to the end. So each of the calls above
+/// succeeds exactly where its walk stops.
+pub fn one_course()
+    ensures one_stop { (walker : Walker) (text : List ℕ) (j k : ℕ) → StopsAt walker text 0 0 j → StopsAt walker text 0 0 k → j ≡ k }
+    ensures stop_or_end { (walker : Walker) (text : List ℕ) (j : ℕ) → NeverStops walker text 0 0 → StopsAt walker text 0 0 j → ⊥ }
+{}
 
 /// What a walk looks for.
 #[derive(Clone, Copy)]
