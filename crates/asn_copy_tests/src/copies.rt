@@ -7,10 +7,10 @@ use asn_copy::{
     copy_module_reference, copy_reading, copy_sequence_or_set, copy_sequence_or_set_member,
     copy_subtype_element, copy_text, copy_toplevel_definition, copy_toplevel_type_definition,
 };
+use asn_modules::{SpecError, asn_spec};
 use asn_tree::{
     ASN1Type, ASN1Value, Constraint, ElementOrSetOperation, ElementSet, Reading, TaggingEnvironment,
 };
-use asn_modules::{SpecError, asn_spec};
 use std::alloc::Global;
 use std::test::Fail;
 

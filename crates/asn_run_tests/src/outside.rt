@@ -32,13 +32,7 @@ fn assert_source(
 fn a_source_that_fails_at_each_read(rt: HostRuntime) -> Result<(), Fail> {
     // Five reads give the 88 bytes of the module, the sixth finds the end, and a seventh is not made.
     for fails_at in 1..7 {
-        assert_source(
-            &rt,
-            rt.alloc(),
-            fails_at,
-            "error read\n",
-            Status::ReadFault,
-        )?;
+        assert_source(&rt, rt.alloc(), fails_at, "error read\n", Status::ReadFault)?;
     }
     assert_source(&rt, rt.alloc(), 7, LISTING, Status::Clean)
 }

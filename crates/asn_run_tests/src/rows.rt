@@ -80,12 +80,18 @@ fn texts_that_do_not_match(rt: HostRuntime) -> Result<(), Fail> {
         // The name, the words, the assignment and the closing of a module, each in its turn.
         ("\n 1", "error matching line 2 column 2\n"),
         ("M", "error matching line 1 column 2\n"),
-        ("M DEFINITIONS BEGIN END", "error matching line 1 column 15\n"),
+        (
+            "M DEFINITIONS BEGIN END",
+            "error matching line 1 column 15\n",
+        ),
         (
             "M DEFINITIONS AUTOMATIC TAGS\n BEGIN END",
             "error matching line 2 column 2\n",
         ),
-        ("M DEFINITIONS ::= -- d -- END", "error matching line 1 column 27\n"),
+        (
+            "M DEFINITIONS ::= -- d -- END",
+            "error matching line 1 column 27\n",
+        ),
         (
             "M DEFINITIONS ::= BEGIN A ::= NULL END",
             "error matching line 1 column 25\n",

@@ -7,9 +7,13 @@ use std::alloc::Global;
 // The report of a text that does not match; None where it does, or is too deep.
 fn report_of(alloc: Global, text: &str) -> Option<ReportData> {
     match asn_spec(alloc, text, 512) {
-        Err(SpecError::Lexer(LexerError {
-            kind: LexerErrorType::MatchingError(report),
-        })) => Some(report),
+        Err(
+            SpecError::Lexer(
+                LexerError {
+                    kind: LexerErrorType::MatchingError(report),
+                },
+            ),
+        ) => Some(report),
         Err(_) => None,
         Ok(_) => None,
     }

@@ -15,16 +15,10 @@ fn end_of(rule: RuleId, text: &str) -> Option<usize> {
 #[test]
 fn where_rules_end(rt: HostRuntime) {
     let whole = RuleId::new(ASN_SPEC);
-    assert_eq!(rt;
-        end_of(whole, "M DEFINITIONS ::= BEGIN END\n"),
-        Some(28)
-    );
+    assert_eq!(rt; end_of(whole, "M DEFINITIONS ::= BEGIN END\n"), Some(28));
     assert_eq!(rt; end_of(whole, "M DEFINITIONS ::= BEGIN"), None);
     assert_eq!(rt; end_of(RuleId::new(BOOLEAN), " BOOLEAN }"), Some(8));
-    assert_eq!(rt;
-        end_of(RuleId::new(VALUE_RANGE), "-3 .. 7)"),
-        Some(7)
-    );
+    assert_eq!(rt; end_of(RuleId::new(VALUE_RANGE), "-3 .. 7)"), Some(7));
     assert_eq!(rt; end_of(RuleId::new(VALUE_RANGE), "5..1)"), None);
 }
 
