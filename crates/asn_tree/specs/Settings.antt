@@ -57,6 +57,9 @@ abbrev pub numbered : {T : Type 0} → (ℕ → T) → List ℕ → List ℕ →
 numbered setting word bytes = option_map setting (number_behind word bytes)
 
 -- Basic: what kind of moment or span the values are
+abbrev pub basic_name : List ℕ
+basic_name = codes "Basic"
+
 abbrev pub basic_text : BasicSettings → List ℕ
 basic_text basic.Date = codes "Date"
 basic_text basic.Time = codes "Time"
@@ -68,6 +71,9 @@ abbrev pub basic_of : List ℕ → Option BasicSettings
 basic_of bytes = among basic_text (basic.Date ∷ basic.Time ∷ basic.DateTime ∷ basic.Interval ∷ basic.RecInterval ∷ []) bytes
 
 -- Date: the parts that tell a date
+abbrev pub date_name : List ℕ
+date_name = codes "Date"
+
 abbrev pub date_text : DateSettings → List ℕ
 date_text date.Century = codes "C"
 date_text date.Year = codes "Y"
@@ -81,6 +87,9 @@ abbrev pub date_of : List ℕ → Option DateSettings
 date_of bytes = among date_text (date.Century ∷ date.Year ∷ date.YearMonth ∷ date.YearMonthDay ∷ date.YearDay ∷ date.YearWeek ∷ date.YearWeekDay ∷ []) bytes
 
 -- Year: which years a date may have
+abbrev pub year_name : List ℕ
+year_name = codes "Year"
+
 abbrev pub year_text : YearSettings → List ℕ
 year_text year.Basic = codes "Basic"
 year_text year.Proleptic = codes "Proleptic"
@@ -91,6 +100,9 @@ abbrev pub year_of : List ℕ → Option YearSettings
 year_of bytes = option_or (among year_text (year.Basic ∷ year.Proleptic ∷ year.Negative ∷ []) bytes) (numbered year.Large (codes "L") bytes)
 
 -- Time: the parts that tell a time of day
+abbrev pub time_name : List ℕ
+time_name = codes "Time"
+
 abbrev pub time_text : TimeSettings → List ℕ
 time_text time.Hour = codes "H"
 time_text time.HourMinute = codes "HM"
@@ -99,7 +111,7 @@ time_text (time.HourDecimalFraction n) = codes "HF" ++ decimal n
 time_text (time.HourMinuteFraction n) = codes "HMF" ++ decimal n
 time_text (time.HourMinuteSecondFraction n) = codes "HMSF" ++ decimal n
 
--- a time of day with a fraction: the word has no prefix among the others, so the order is nothing
+-- a time of day with a fraction; no text is of two of these, since a digit stands behind the word
 abbrev pub fraction_of : List ℕ → Option TimeSettings
 fraction_of bytes =
     option_or (numbered time.HourDecimalFraction (codes "HF") bytes)
@@ -110,6 +122,9 @@ abbrev pub time_of : List ℕ → Option TimeSettings
 time_of bytes = option_or (among time_text (time.Hour ∷ time.HourMinute ∷ time.HourMinuteSecond ∷ []) bytes) (fraction_of bytes)
 
 -- Local-or-UTC: which clock a time of day is of
+abbrev pub clock_name : List ℕ
+clock_name = codes "Local-or-UTC"
+
 abbrev pub clock_text : LocalOrUtcSettings → List ℕ
 clock_text clock.Local = codes "L"
 clock_text clock.Utc = codes "Z"
@@ -119,6 +134,9 @@ abbrev pub clock_of : List ℕ → Option LocalOrUtcSettings
 clock_of bytes = among clock_text (clock.Local ∷ clock.Utc ∷ clock.LocalAndDifference ∷ []) bytes
 
 -- Interval-type: the parts that tell an interval
+abbrev pub interval_name : List ℕ
+interval_name = codes "Interval-type"
+
 abbrev pub interval_text : IntervalTypeSettings → List ℕ
 interval_text interval.StartAndEnd = codes "SE"
 interval_text interval.Duration = codes "D"
@@ -129,6 +147,9 @@ abbrev pub interval_of : List ℕ → Option IntervalTypeSettings
 interval_of bytes = among interval_text (interval.StartAndEnd ∷ interval.Duration ∷ interval.StartAndDuration ∷ interval.DurationAndEnd ∷ []) bytes
 
 -- SE-point: what the ends of an interval are
+abbrev pub point_name : List ℕ
+point_name = codes "SE-point"
+
 abbrev pub point_text : StartEndPointSettings → List ℕ
 point_text point.Date = codes "Date"
 point_text point.Time = codes "Time"
@@ -138,6 +159,9 @@ abbrev pub point_of : List ℕ → Option StartEndPointSettings
 point_of bytes = among point_text (point.Date ∷ point.Time ∷ point.DateTime ∷ []) bytes
 
 -- Recurrence: how often an interval recurs
+abbrev pub recurrence_name : List ℕ
+recurrence_name = codes "Recurrence"
+
 abbrev pub recurrence_text : RecurrenceSettings → List ℕ
 recurrence_text recurrence.Unlimited = codes "Unlimited"
 recurrence_text (recurrence.Recurrences n) = codes "R" ++ decimal n
@@ -146,6 +170,9 @@ abbrev pub recurrence_of : List ℕ → Option RecurrenceSettings
 recurrence_of bytes = option_or (among recurrence_text (recurrence.Unlimited ∷ []) bytes) (numbered recurrence.Recurrences (codes "R") bytes)
 
 -- Midnight: which end of a day midnight is
+abbrev pub midnight_name : List ℕ
+midnight_name = codes "Midnight"
+
 abbrev pub midnight_text : MidnightSettings → List ℕ
 midnight_text midnight.StartOfDay = codes "Start"
 midnight_text midnight.EndOfDay = codes "End"
@@ -156,13 +183,13 @@ midnight_of bytes = among midnight_text (midnight.StartOfDay ∷ midnight.EndOfD
 -- the setting that a property's name and a text tell
 abbrev pub pair_of : List ℕ → List ℕ → Option PropertyAndSettingsPair
 pair_of name text =
-    if bytes_eq name (codes "Basic") then option_map pair.Basic (basic_of text) else
-    if bytes_eq name (codes "Date") then option_map pair.Date (date_of text) else
-    if bytes_eq name (codes "Year") then option_map pair.Year (year_of text) else
-    if bytes_eq name (codes "Time") then option_map pair.Time (time_of text) else
-    if bytes_eq name (codes "Local-or-UTC") then option_map pair.LocalOrUtc (clock_of text) else
-    if bytes_eq name (codes "Interval-type") then option_map pair.IntervalType (interval_of text) else
-    if bytes_eq name (codes "SE-point") then option_map pair.StartEndPoint (point_of text) else
-    if bytes_eq name (codes "Recurrence") then option_map pair.Recurrence (recurrence_of text) else
-    if bytes_eq name (codes "Midnight") then option_map pair.Midnight (midnight_of text) else
+    if bytes_eq name basic_name then option_map pair.Basic (basic_of text) else
+    if bytes_eq name date_name then option_map pair.Date (date_of text) else
+    if bytes_eq name year_name then option_map pair.Year (year_of text) else
+    if bytes_eq name time_name then option_map pair.Time (time_of text) else
+    if bytes_eq name clock_name then option_map pair.LocalOrUtc (clock_of text) else
+    if bytes_eq name interval_name then option_map pair.IntervalType (interval_of text) else
+    if bytes_eq name point_name then option_map pair.StartEndPoint (point_of text) else
+    if bytes_eq name recurrence_name then option_map pair.Recurrence (recurrence_of text) else
+    if bytes_eq name midnight_name then option_map pair.Midnight (midnight_of text) else
     None

@@ -31,7 +31,7 @@ pub use headers::{
 pub use settings::{
     BasicSettings, DateSettings, IntervalTypeSettings, LocalOrUtcSettings, MidnightSettings,
     PropertyAndSettingsPair, PropertySetting, PropertySettings, RecurrenceSettings, SettingError,
-    StartEndPointSettings, TimeSettings, YearSettings,
+    StartEndPointSettings, TimeSettings, YearSettings, equal_settings,
 };
 pub use types::{
     ASN1Type, Boolean, BooleanOver, DeclarationElsewhere, DeclarationElsewhereOver,
