@@ -2,10 +2,13 @@
 
 ghost use Rattle.std.specs.Prelude.{◌≡◌, IfOk};
 
-use crate::lists::CopyTree;
+use crate::lists::{CopyTree, copy_list};
 use crate::values::copy_optional_value;
 use asn_memory::Mem;
-use asn_tree::{Constraint, ElementOrSetOperation, ElementSet, SubtypeElement};
+use asn_tree::{
+    Constraint, ElementOrSetOperation, ElementSet, PropertyAndSettingsPair, PropertySettings,
+    SubtypeElement,
+};
 use std::alloc::Global;
 
 /// A copy of a constraint.
@@ -71,5 +74,20 @@ pub fn copy_subtype_element(alloc: Global, value: &SubtypeElement) -> Mem<Subtyp
                 extensible: *extensible,
             })
         }
+    }
+}
+
+/// A copy of the settings that a constraint asks for.
+pub fn copy_property_settings(alloc: Global, value: &PropertySettings) -> Mem<PropertySettings>
+    ensures { IfOk result (λ copy. copy ≡ value.now) }
+{
+    Ok(PropertySettings {
+        property_settings_list: copy_list(alloc, &value.property_settings_list)?,
+    })
+}
+
+impl CopyTree for PropertyAndSettingsPair {
+    fn copy_tree(&self, _alloc: Global) -> Mem<PropertyAndSettingsPair> {
+        Ok(*self)
     }
 }

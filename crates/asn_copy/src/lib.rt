@@ -12,7 +12,8 @@ mod types;
 mod values;
 
 pub use constraints::{
-    copy_constraint, copy_element_or_set_operation, copy_element_set, copy_subtype_element,
+    copy_constraint, copy_element_or_set_operation, copy_element_set, copy_property_settings,
+    copy_subtype_element,
 };
 pub use definitions::{
     copy_parameter_governor, copy_parameterization, copy_parameterization_argument, copy_reading,

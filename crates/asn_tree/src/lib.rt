@@ -10,6 +10,7 @@ mod constraints;
 mod definitions;
 mod errors;
 mod headers;
+mod settings;
 mod types;
 mod values;
 
@@ -26,6 +27,11 @@ pub use headers::{
     ExtensibilityEnvironment, ExternalValueReference, GlobalModuleReference, Import,
     ModuleReference, ObjectIdentifierArc, ObjectIdentifierValue, TagClass, TaggingEnvironment,
     With,
+};
+pub use settings::{
+    BasicSettings, DateSettings, IntervalTypeSettings, LocalOrUtcSettings, MidnightSettings,
+    PropertyAndSettingsPair, PropertySetting, PropertySettings, RecurrenceSettings, SettingError,
+    StartEndPointSettings, TimeSettings, YearSettings, equal_settings,
 };
 pub use types::{
     ASN1Type, Boolean, BooleanOver, DeclarationElsewhere, DeclarationElsewhereOver,
