@@ -10,6 +10,7 @@ mod constraints;
 mod definitions;
 mod errors;
 mod headers;
+mod plain;
 mod types;
 mod values;
 
@@ -20,12 +21,16 @@ pub use definitions::{
     ParameterGovernor, Parameterization, ParameterizationArgument, Reading, ToplevelDefinition,
     ToplevelTypeDefinition,
 };
-pub use errors::{GrammarErrorType, LinkerError, LinkerErrorType};
+pub use errors::{GrammarError, GrammarErrorType, LinkFault, LinkerError, LinkerErrorType};
 pub use headers::{
     AsnTag, AssignedIdentifier, DefinitiveIdentifier, EncodingReferenceDefault, Exports,
     ExtensibilityEnvironment, ExternalValueReference, GlobalModuleReference, Import,
     ModuleReference, ObjectIdentifierArc, ObjectIdentifierValue, TagClass, TaggingEnvironment,
     With,
+};
+pub use plain::{
+    CharacterStringType, INTERNAL_IO_FIELD_REF_TYPE_NAME_PREFIX, INTERNAL_NESTED_TYPE_NAME_PREFIX,
+    IntegerType, NUMERIC_STRING_CHARSET, PRINTABLE_STRING_CHARSET, RealValue,
 };
 pub use types::{
     ASN1Type, Boolean, BooleanOver, DeclarationElsewhere, DeclarationElsewhereOver,
