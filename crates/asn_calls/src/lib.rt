@@ -1,0 +1,9 @@
+//! Calls on the trees of ASN.1 modules.
+//!
+//! It stands on the trees, and knows nothing of texts or of names' meaning. A call on a type of the trees is a
+//! function of a trait that is named after the type with `Calls` behind it. `enumerate` numbers an enumeration.
+#![tactic(auto)]
+
+mod enumeration;
+
+pub use enumeration::enumerate;
