@@ -5,5 +5,7 @@
 #![tactic(auto)]
 
 mod enumeration;
+mod laws;
 
 pub use enumeration::enumerate;
+pub use laws::{numbers_are_distinct, numbers_are_one};
