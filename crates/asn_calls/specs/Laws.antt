@@ -1,5 +1,7 @@
 -- Laws of the calls.
-use Rattle.std.specs.Prelude.{◌≡◌, ℤ, false, List, [], ◌∷◌, ◌++◌, Option, Some, None, ⊤}
+use Rattle.std.specs.Prelude.{◌≡◌, ◌≤◌, ◌⊎◌, ℤ, false, List, [], ◌∷◌, ◌++◌, Option, Some, None, ⊤}
+use Rattle.asn_tree.specs.declared.plain.IntegerType.{IntegerType}
+use Rattle.asn_calls.specs.Integers.{place, earlier}
 use Rattle.asn_calls.specs.Enumeration.{has, written, IsAbove, AreOfRoot, AreOfAdditions, AreNumbers, NumbersPass, SomePasses}
 
 -- An enumeration has one list of numbers. So where some number passes 128 bits, no list within them has the numbers.
@@ -23,3 +25,9 @@ Rise of_root earlier (item ∷ items) [] = ⊤
 abbrev pub NumbersAreDistinct : Type 0
 NumbersAreDistinct =
     (root additions : List (Option ℤ)) (of_root of_additions : List ℤ) → AreOfRoot root of_root → AreOfAdditions of_root additions of_additions → AreDistinct (written root) → Rise of_root [] additions of_additions → AreDistinct (of_root ++ of_additions)
+
+-- The most restrictive of two integer types is one of them, and none of them comes before it.
+pub record EarlierIsLeast : Type 0 where
+  pub is_one : (a b : IntegerType) → (earlier a b ≡ a) ⊎ (earlier a b ≡ b)
+  pub is_least_left : (a b : IntegerType) → place (earlier a b) ≤ place a
+  pub is_least_right : (a b : IntegerType) → place (earlier a b) ≤ place b

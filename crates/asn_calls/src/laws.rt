@@ -1,6 +1,6 @@
 //! Laws of the calls, each the contract of a function without a body.
 
-ghost use Rattle.asn_calls.specs.Laws.{NumbersAreDistinct, NumbersAreOne};
+ghost use Rattle.asn_calls.specs.Laws.{EarlierIsLeast, NumbersAreDistinct, NumbersAreOne};
 
 /// The numbers of an enumeration are determined: `enumerate` has one list to give, or none within `i128`.
 pub fn numbers_are_one()
@@ -11,4 +11,9 @@ pub fn numbers_are_one()
 /// and above those of all earlier additions.
 pub fn numbers_are_distinct()
     ensures { NumbersAreDistinct }
+{}
+
+/// `max_restrictive` gives one of its arguments, the least in its order.
+pub fn max_restrictive_is_least()
+    ensures { EarlierIsLeast }
 {}

@@ -5,7 +5,11 @@
 #![tactic(auto)]
 
 mod enumeration;
+mod integers;
 mod laws;
+mod strings;
 
 pub use enumeration::enumerate;
-pub use laws::{numbers_are_distinct, numbers_are_one};
+pub use integers::IntegerTypeCalls;
+pub use laws::{max_restrictive_is_least, numbers_are_distinct, numbers_are_one};
+pub use strings::CharacterStringTypeCalls;
