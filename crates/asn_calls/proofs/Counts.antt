@@ -1,10 +1,9 @@
 -- Counting gives the numbers of the standard.
-use Rattle.std.proofs.Common.{◌≡◌, ℕ, zero, suc, ◌+◌, ◌≤◌, ◌<◌, ◌^◌, ◌⊎◌, inl, inr, max, ℤ, pos, negsuc, ◌≤ℤ◌, ◌<ℤ◌, Bool, true, false, ◌||◌, if◌then◌else◌, nat_lt, List, [], ◌∷◌, ◌++◌, Option, Some, None, refl, ap, sym, ◌∙◌, subst, arith, append_assoc, append-nil}
+use Rattle.std.proofs.Common.{◌≡◌, ℕ, zero, suc, ◌+◌, ◌≤◌, ◌<◌, ◌^◌, inl, inr, max, ℤ, pos, negsuc, ◌≤ℤ◌, ◌<ℤ◌, Bool, true, false, ◌||◌, if◌then◌else◌, nat_lt, List, [], ◌∷◌, ◌++◌, Option, Some, None, refl, ap, sym, ◌∙◌, subst, arith, append_assoc, append-nil}
 use Rattle.std.specs.Ordering.{int_eq}
-use Rattle.std.specs.List.{list_any}
 use Rattle.std.proofs.lemmas.Bool.Decides.{Decides-int_eq, nat_tests}
 use Rattle.std.proofs.lemmas.Int.{ints}
-use Rattle.asn_calls.specs.Enumeration.{has, written, IsAbove, IsFree, IsNext, IsNumberOf, behind, Numbered, AreOfRoot, AreOfAdditions, AreNumbers, SomePasses, NumbersPass}
+use Rattle.asn_calls.specs.Enumeration.{has, written, IsAbove, IsFree, IsNext, IsNumberOf, behind, Numbered, AreOfRoot, SomePasses, NumbersPass}
 use Rattle.asn_calls.specs.Counting.{IsLeastFrom, if_fits, from_above, from_behind, IsGiven, Passes}
 
 -- Where a number is above all earlier ones: from `from` on.

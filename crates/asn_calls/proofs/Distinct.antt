@@ -1,9 +1,9 @@
 -- The numbers of an enumeration are determined, and distinct where the standard asks that they be.
-use Rattle.std.proofs.Common.{◌≡◌, ◌⊎◌, inl, inr, ℤ, pos, ◌≤ℤ◌, ◌<ℤ◌, Bool, true, false, ◌||◌, List, [], ◌∷◌, ◌++◌, Option, Some, None, refl, ap, sym, ◌∙◌, subst, arith}
+use Rattle.std.proofs.Common.{◌≡◌, ◌⊎◌, inl, inr, ℤ, ◌≤ℤ◌, ◌<ℤ◌, Bool, true, false, ◌||◌, List, [], ◌∷◌, ◌++◌, Option, Some, None, refl, ap, sym, ◌∙◌, subst, arith}
 use Rattle.std.specs.Ordering.{int_eq}
 use Rattle.std.proofs.lemmas.Bool.Decides.{Decides-int_eq}
 use Rattle.std.proofs.lemmas.Int.{ints}
-use Rattle.asn_calls.specs.Enumeration.{has, written, IsAbove, IsFree, IsNext, IsNumberOf, behind, Numbered, AreOfRoot, AreOfAdditions, AreNumbers, SomePasses, NumbersPass}
+use Rattle.asn_calls.specs.Enumeration.{has, written, IsAbove, IsNumberOf, behind, Numbered, AreOfAdditions, AreNumbers, SomePasses}
 use Rattle.asn_calls.specs.Laws.{NumbersAreOne, AreDistinct, Rise, NumbersAreDistinct}
 
 same_number : (taken earlier : List ℤ) (item : Option ℤ) (m n : ℤ) → IsNumberOf taken earlier item m → IsNumberOf taken earlier item n → m ≡ n

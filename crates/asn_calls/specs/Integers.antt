@@ -1,5 +1,5 @@
 -- The integer types, from the most restrictive.
-use Rattle.std.specs.Prelude.{◌≡◌, ℕ, ◌≤◌, ◌⊎◌, nat_le, Bool, true, false, List, codes, if◌then◌else◌}
+use Rattle.std.specs.Prelude.{ℕ, nat_le, Bool, true, false, List, codes, if◌then◌else◌}
 use Rattle.asn_tree.specs.declared.plain.IntegerType.{IntegerType}
 use Rattle.asn_tree.specs.declared.plain.IntegerType.TheVariants.{Int8, Uint8, Int16, Uint16, Int32, Uint32, Int64, Uint64, Unbounded}
 

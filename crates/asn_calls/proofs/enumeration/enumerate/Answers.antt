@@ -1,6 +1,6 @@
-use Rattle.std.proofs.Common.{rules, ◌≡◌, ◌∙◌, subst, None, Some, false, true, List, [], ℤ}
+use Rattle.std.proofs.Common.{◌≡◌, ◌∙◌, subst, false, true, List, [], ℤ}
 use Rattle.asn_calls.specs.Counting.{Passes}
-use Rattle.asn_calls.specs.Enumeration.{written, AreOfRoot, Numbered}
+use Rattle.asn_calls.specs.Enumeration.{written, Numbered}
 use Rattle.asn_calls.proofs.Counts.{root_passes, additions_pass}
 use Rattle.asn_calls.proofs.enumeration.enumerate.Goals as goal
 

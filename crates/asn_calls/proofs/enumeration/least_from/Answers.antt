@@ -1,4 +1,4 @@
-use Rattle.std.proofs.Common.{◌≡◌, ◌∙◌, sym, None}
+use Rattle.std.proofs.Common.{◌∙◌, sym}
 use Rattle.asn_calls.proofs.Counts.{passed}
 use Rattle.asn_calls.proofs.enumeration.least_from.Goals as goal
 

@@ -1,4 +1,4 @@
-use Rattle.std.proofs.Common.{rules, ◌≡◌, ◌∙◌, ◌++◌, ◌+◌, ap, sym}
+use Rattle.std.proofs.Common.{◌∙◌, ◌++◌, ◌+◌, ap, sym}
 use Rattle.asn_calls.specs.Strings.{span}
 use Rattle.asn_calls.proofs.Spans.{span_more, span_done}
 use Rattle.asn_calls.proofs.strings.span.Goals as goal
