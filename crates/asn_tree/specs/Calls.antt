@@ -1,7 +1,10 @@
 -- What the calls on trees answer.
-use Rattle.std.specs.Prelude.{ℕ, List, Option, Some, None}
+use Rattle.std.specs.Prelude.{ℕ, List, Option, Some}
 use Rattle.asn_tree.specs.declared.definitions.ToplevelDefinition.{ToplevelDefinition}
 use Rattle.asn_tree.specs.declared.definitions.ToplevelDefinition.TheVariants.{TypeDef}
+use Rattle.asn_tree.specs.declared.errors.GrammarError.{GrammarError}
+use Rattle.asn_tree.specs.declared.errors.LinkerError.{LinkerError}
+use Rattle.asn_tree.specs.declared.errors.LinkerErrorType.TheVariants.{Unknown}
 use Rattle.asn_tree.specs.declared.headers.TaggingEnvironment.{TaggingEnvironment}
 use Rattle.asn_tree.specs.declared.headers.TaggingEnvironment.TheVariants.{Automatic, Implicit, Explicit}
 
@@ -28,3 +31,13 @@ abbrev pub added : TaggingEnvironment → TaggingEnvironment → TaggingEnvironm
 added home Automatic = home
 added home Implicit = Implicit
 added home Explicit = Explicit
+
+-- the warning that tells a refusal
+abbrev pub warned : GrammarError → LinkerError
+warned refusal =
+    record {
+      pdu = refusal.pdu;
+      details = refusal.details;
+      kind = Unknown;
+      grammar = Some refusal.kind;
+    }

@@ -1,5 +1,5 @@
 -- The text of a linked answer: a line for each definition, then a line for each warning.
-use Rattle.std.specs.Prelude.{ℕ, ℤ, List, [], ◌∷◌, ◌++◌, map, Option, Some, None, Bool, true, false, codes, if◌then◌else◌}
+use Rattle.std.specs.Prelude.{ℕ, List, [], ◌∷◌, ◌++◌, Option, Some, None, Bool, true, false, codes, if◌then◌else◌}
 use Rattle.std.specs.Fmt.{signed_decimal}
 use Rattle.asn_tree.specs.declared.constraints.Constraint.{Constraint}
 use Rattle.asn_tree.specs.declared.constraints.Constraint.TheVariants.{SubtypeConstraint}

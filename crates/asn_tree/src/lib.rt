@@ -10,6 +10,7 @@ mod constraints;
 mod definitions;
 mod errors;
 mod headers;
+mod plain;
 mod settings;
 mod types;
 mod values;
@@ -21,12 +22,16 @@ pub use definitions::{
     ParameterGovernor, Parameterization, ParameterizationArgument, Reading, ToplevelDefinition,
     ToplevelTypeDefinition,
 };
-pub use errors::{GrammarErrorType, LinkerError, LinkerErrorType};
+pub use errors::{GrammarError, GrammarErrorType, LinkFault, LinkerError, LinkerErrorType};
 pub use headers::{
     AsnTag, AssignedIdentifier, DefinitiveIdentifier, EncodingReferenceDefault, Exports,
     ExtensibilityEnvironment, ExternalValueReference, GlobalModuleReference, Import,
     ModuleReference, ObjectIdentifierArc, ObjectIdentifierValue, TagClass, TaggingEnvironment,
     With,
+};
+pub use plain::{
+    CharacterStringType, INTERNAL_IO_FIELD_REF_TYPE_NAME_PREFIX, INTERNAL_NESTED_TYPE_NAME_PREFIX,
+    IntegerType, NUMERIC_STRING_CHARSET, PRINTABLE_STRING_CHARSET, RealValue,
 };
 pub use settings::{
     BasicSettings, DateSettings, IntervalTypeSettings, LocalOrUtcSettings, MidnightSettings,

@@ -1,0 +1,114 @@
+//! The numbers of an enumeration's items.
+
+ghost use Rattle.asn_calls.specs.Counting.{IsGiven, IsLeastFrom, Passes, from_above, from_behind, if_fits};
+ghost use Rattle.asn_calls.specs.Enumeration.{AreNumbers, Numbered, NumbersPass, written};
+ghost use Rattle.std.specs.Prelude.{◌≡◌, ℕ, [], IfOk, MatchOption};
+
+use asn_memory::{List, Mem};
+use std::alloc::Global;
+
+/// The number of each item of an enumeration, first of the root's, where an item is the number written after its name
+/// (X.680 clause 20). None where a number would pass `i128`. A number that is written stands as it is, also where
+/// another item has it.
+pub fn enumerate(
+    alloc: Global,
+    root: &[Option<i128>],
+    additions: &[Option<i128>],
+) -> Mem<Option<List<i128>>>
+    ensures { IfOk result (λ answer. MatchOption answer (NumbersPass root.now additions.now) (λ numbers. AreNumbers root.now additions.now numbers)) }
+{
+    let taken = written(alloc, root)?;
+    let Some(mut numbers) = numbers_of(alloc, root, taken.as_slice(), false)? else {
+        return Ok(None);
+    };
+    let Some(further) = numbers_of(alloc, additions, numbers.as_slice(), true)? else {
+        return Ok(None);
+    };
+    numbers.append(further)?;
+    Ok(Some(numbers))
+}
+
+// The numbers that are written.
+fn written(alloc: Global, items: &[Option<i128>]) -> Mem<List<i128>>
+    ensures { IfOk result (λ numbers. numbers ≡ written items.now) }
+{
+    let mut numbers = List::new(alloc);
+    for item in items {
+        if let Some(number) = item {
+            numbers.add(*number)?;
+        }
+    }
+    Ok(numbers)
+}
+
+// The numbers of items in order, where `counts` says whether later numbers stand above one that is written.
+fn numbers_of(
+    alloc: Global,
+    items: &[Option<i128>],
+    taken: &[i128],
+    counts: bool,
+) -> Mem<Option<List<i128>>>
+    ensures { IfOk result (λ answer. MatchOption answer (Passes counts taken.now items.now) (λ numbers. Numbered counts taken.now [] items.now numbers)) }
+{
+    let mut numbers = List::new(alloc);
+    let mut from = 0;
+    for item in items {
+        let Some(number) = number_of(*item, taken, from) else {
+            return Ok(None);
+        };
+        from = from_behind(counts, from, *item, number);
+        numbers.add(number)?;
+    }
+    Ok(Some(numbers))
+}
+
+// The number that is written, else the least from `from` on that is not taken; None where that would pass `i128`.
+fn number_of(item: Option<i128>, taken: &[i128], from: u128) -> Option<i128>
+    ensures { IsGiven taken.now from item result }
+{
+    match item {
+        Some(number) => Some(number),
+        None => least_from(taken, from),
+    }
+}
+
+// The least number from `from` on that is not taken; None where that would pass `i128`.
+fn least_from(taken: &[i128], from: u128) -> Option<i128>
+    ensures { (n : ℕ) × IsLeastFrom taken.now from n × (result ≡ if_fits n) }
+{
+    let mut number = from;
+    while let Some(fitting) = if_fits(number) {
+        if !taken.contains(&fitting) {
+            return Some(fitting);
+        }
+        number += 1;
+    }
+    None
+}
+
+fn if_fits(number: u128) -> Option<i128>
+    ensures { result ≡ if_fits number }
+{
+    0i128.checked_add_unsigned(number)
+}
+
+// Where the number behind an item is counted from.
+fn from_behind(counts: bool, from: u128, item: Option<i128>, number: i128) -> u128
+    ensures { result ≡ from_behind counts from item number }
+{
+    if counts || item.is_none() {
+        from_above(from, number)
+    } else {
+        from
+    }
+}
+
+// The least number that is neither negative nor below `from`, and above `number`.
+fn from_above(from: u128, number: i128) -> u128
+    ensures { result ≡ from_above from number }
+{
+    match u128::try_from(number) {
+        Ok(number) => from.max(number + 1),
+        Err(_) => from,
+    }
+}
