@@ -1,5 +1,7 @@
 //! An outside that gives and takes in pieces, and fails at each of its calls in turn.
 
+ghost use Rattle.std.specs.Prelude.{◌<◌};
+
 use crate::texts::{LISTING, WHOLE, words_of};
 use asn_tool::{ListSink, ListSource, Status, SureSink, SureSource, run};
 use std::alloc::Global;
@@ -59,7 +61,9 @@ fn assert_sink(
     fails_at: u64,
     written: &str,
     status: Status,
-) -> Result<(), Fail> {
+) -> Result<(), Fail>
+    requires { 0 < at_most }
+{
     let words = words_of(alloc, &[word])?;
     let failing = [fails_at];
     let mut source = SureSource::new(WHOLE.as_bytes());
