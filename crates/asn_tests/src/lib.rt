@@ -22,4 +22,6 @@ mod readings;
 #[cfg(test)]
 mod rules;
 #[cfg(test)]
+mod settings;
+#[cfg(test)]
 mod trees;
