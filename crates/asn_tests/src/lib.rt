@@ -18,4 +18,6 @@ mod readings;
 #[cfg(test)]
 mod rules;
 #[cfg(test)]
+mod settings;
+#[cfg(test)]
 mod trees;

@@ -174,7 +174,7 @@ pub enum StartEndPointSettings {
 #[derive(Clone, Copy, Debug, PartialEq, Eq)]
 pub enum RecurrenceSettings {
     Unlimited,
-    /// At most as often as a number of this many digits may say.
+    /// A limited number of times, with this number behind the `R`.
     Recurrences(usize),
 }
 
