@@ -1,8 +1,8 @@
 //! The numbers of an enumeration's items.
 
 ghost use Rattle.asn_calls.specs.Counting.{IsGiven, IsLeastFrom, Passes, from_above, from_behind, if_fits};
-ghost use Rattle.asn_calls.specs.Enumeration.{AreNumbers, Numbered, NumbersPass, written};
-ghost use Rattle.std.specs.Prelude.{◌≡◌, ℕ, [], IfOk, MatchOption};
+ghost use Rattle.asn_calls.specs.Enumeration.{AreNumbers, Numbered, NumbersPass, SomePasses, written};
+ghost use Rattle.std.specs.Prelude.{◌≡◌, ◌↔◌, ℕ, [], IfOk, IfSome, IsNone, MatchOption};
 
 use asn_memory::{List, Mem};
 use std::alloc::Global;
@@ -15,7 +15,8 @@ pub fn enumerate(
     root: &[Option<i128>],
     additions: &[Option<i128>],
 ) -> Mem<Option<List<i128>>>
-    ensures { IfOk result (λ answer. MatchOption answer (NumbersPass root.now additions.now) (λ numbers. AreNumbers root.now additions.now numbers)) }
+    ensures numbers { IfOk result (λ answer. IfSome answer (λ numbers. AreNumbers root.now additions.now numbers)) }
+    ensures passes { IfOk result (λ answer. IsNone answer ↔ NumbersPass root.now additions.now) }
 {
     let taken = written(alloc, root)?;
     let Some(mut numbers) = numbers_of(alloc, root, taken.as_slice(), false)? else {
@@ -48,7 +49,8 @@ fn numbers_of(
     taken: &[i128],
     counts: bool,
 ) -> Mem<Option<List<i128>>>
-    ensures { IfOk result (λ answer. MatchOption answer (Passes counts taken.now items.now) (λ numbers. Numbered counts taken.now [] items.now numbers)) }
+    ensures numbers { IfOk result (λ answer. MatchOption answer (Passes counts taken.now items.now) (λ numbers. Numbered counts taken.now [] items.now numbers)) }
+    ensures fit { IfOk result (λ answer. IfSome answer (λ numbers. SomePasses numbers → ⊥)) }
 {
     let mut numbers = List::new(alloc);
     let mut from = 0;
