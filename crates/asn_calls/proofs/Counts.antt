@@ -1,5 +1,6 @@
 -- Counting gives the numbers of the standard.
-use Rattle.std.proofs.Common.{◌≡◌, ℕ, zero, suc, ◌+◌, ◌≤◌, ◌<◌, ◌^◌, inl, inr, max, ℤ, pos, negsuc, ◌≤ℤ◌, ◌<ℤ◌, Bool, true, false, ◌||◌, if◌then◌else◌, nat_lt, List, [], ◌∷◌, ◌++◌, Option, Some, None, refl, ap, sym, ◌∙◌, subst, arith, append_assoc, append-nil}
+use Rattle.std.proofs.Common.{◌≡◌, SFits, ℕ, zero, suc, ◌+◌, ◌≤◌, ◌<◌, ◌^◌, inl, inr, max, ℤ, pos, negsuc, ◌≤ℤ◌, ◌<ℤ◌, Bool, true, false, ◌||◌, if◌then◌else◌, nat_lt, List, [], ◌∷◌, ◌++◌, Option, Some, None, refl, ap, sym, ◌∙◌, subst, arith, append_assoc, append-nil}
+use Rattle.std.specs.Int.{w128}
 use Rattle.std.specs.Ordering.{int_eq}
 use Rattle.std.proofs.lemmas.Bool.Decides.{Decides-int_eq, nat_tests}
 use Rattle.std.proofs.lemmas.Int.{ints}
@@ -130,21 +131,39 @@ passes_right (x ∷ xs) ys h = inr (passes_right xs ys h)
 pub record Sofar (counts : Bool) (taken : List ℤ) (items left : List (Option ℤ)) (numbers : List ℤ) (from : ℕ) : Type 0 where
   pub earlier : List ℤ
   pub floor : Floor earlier from
+  pub fit : SomePasses numbers → ⊥
   pub goes_on : (ns : List ℤ) → Numbered counts taken earlier left ns → Numbered counts taken [] items (numbers ++ ns)
 
 pub begun : (counts : Bool) (taken : List ℤ) (items : List (Option ℤ)) → Sofar counts taken items items [] 0
-begun counts taken items = record { earlier = []; floor = floor_start; goes_on = λ ns h. h }
+begun counts taken items = record { earlier = []; floor = floor_start; fit = λ h. h; goes_on = λ ns h. h }
 
 given_is : (taken earlier : List ℤ) (from : ℕ) → Floor earlier from → (item : Option ℤ) (n : ℤ) → IsGiven taken from item (Some n) → IsNumberOf taken earlier item n
 given_is taken earlier from f (Some m) n h = cc
 given_is taken earlier from f None n h =
     subst (IsNext taken earlier) (sym (fits_some h.0 n (sym h.2))) (next_is taken earlier from h.0 f h.1)
 
-pub stepped : (counts : Bool) (taken : List ℤ) (items : List (Option ℤ)) (item : Option ℤ) (left : List (Option ℤ)) (numbers : List ℤ) (from : ℕ) (n : ℤ) → Sofar counts taken items (item ∷ left) numbers from → IsGiven taken from item (Some n) → Sofar counts taken items left (numbers ++ n ∷ []) (from_behind counts from item n)
-stepped counts taken items item left numbers from n s g =
+-- A number of 128 bits passes them neither alone nor behind others.
+small_is : (n : ℤ) → SFits w128 n → n <ℤ pos (2 ^ 127)
+small_is (pos n) h = let low : n < 2 ^ 127 = h.sfits in omega (arith, ints)
+small_is (negsuc n) h = omega (arith, ints)
+
+fit_behind : (xs : List ℤ) (n : ℤ) → (SomePasses xs → ⊥) → n <ℤ pos (2 ^ 127) → SomePasses (xs ++ n ∷ []) → ⊥
+fit_behind [] n f h (inl p) = omega (arith, ints)
+fit_behind [] n f h (inr p) = p
+fit_behind (x ∷ xs) n f h (inl p) = f (inl p)
+fit_behind (x ∷ xs) n f h (inr p) = fit_behind xs n (λ q. f (inr q)) h p
+
+pub fit_together : (xs ys : List ℤ) → (SomePasses xs → ⊥) → (SomePasses ys → ⊥) → SomePasses (xs ++ ys) → ⊥
+fit_together [] ys f g h = g h
+fit_together (x ∷ xs) ys f g (inl h) = f (inl h)
+fit_together (x ∷ xs) ys f g (inr h) = fit_together xs ys (λ q. f (inr q)) g h
+
+pub stepped : (counts : Bool) (taken : List ℤ) (items : List (Option ℤ)) (item : Option ℤ) (left : List (Option ℤ)) (numbers : List ℤ) (from : ℕ) (n : ℤ) → Sofar counts taken items (item ∷ left) numbers from → IsGiven taken from item (Some n) → SFits w128 n → Sofar counts taken items left (numbers ++ n ∷ []) (from_behind counts from item n)
+stepped counts taken items item left numbers from n s g small =
     record {
       earlier = behind counts s.earlier item n;
       floor = floor_behind counts s.earlier from s.floor item n;
+      fit = fit_behind numbers n s.fit (small_is n small);
       goes_on = λ ns h. subst (Numbered counts taken [] items) (sym (append_assoc numbers (n ∷ []) ns)) (s.goes_on (n ∷ ns) (given_is taken s.earlier from s.floor item n g, h));
     }
 

@@ -3,7 +3,7 @@ use Rattle.std.proofs.Common.{◌≡◌, ◌⊎◌, inl, inr, ℤ, ◌≤ℤ◌,
 use Rattle.std.specs.Ordering.{int_eq}
 use Rattle.std.proofs.lemmas.Bool.Decides.{Decides-int_eq}
 use Rattle.std.proofs.lemmas.Int.{ints}
-use Rattle.asn_calls.specs.Enumeration.{has, written, IsAbove, IsNumberOf, behind, Numbered, AreOfAdditions, AreNumbers, SomePasses}
+use Rattle.asn_calls.specs.Enumeration.{has, written, IsAbove, IsNumberOf, behind, Numbered, AreOfAdditions, AreNumbers, SomePasses, NumbersPass}
 use Rattle.asn_calls.specs.Laws.{NumbersAreOne, AreDistinct, Rise, NumbersAreDistinct}
 
 same_number : (taken earlier : List ℤ) (item : Option ℤ) (m n : ℤ) → IsNumberOf taken earlier item m → IsNumberOf taken earlier item n → m ≡ n
@@ -40,6 +40,10 @@ are_one =
       one = one;
       or_pass = λ root additions xs p a. subst SomePasses (one root additions p.numbers xs p.are_numbers a) p.pass;
     }
+
+-- So where they all fit, none passes.
+pub none_pass : (root additions : List (Option ℤ)) (xs : List ℤ) → AreNumbers root additions xs → (SomePasses xs → ⊥) → NumbersPass root additions → ⊥
+none_pass root additions xs a fit p = fit (are_one.or_pass root additions xs p a)
 
 has_cases : (x : ℤ) (xs : List ℤ) (k : ℤ) → has (x ∷ xs) k ≡ true → (x ≡ k) ⊎ (has xs k ≡ true)
 has_cases x xs k h = go (int_eq x k) (Decides-int_eq x k).0 h

@@ -1,9 +1,10 @@
 //! The numbers of an enumeration's items.
 
 ghost use Rattle.asn_calls.specs.Counting.{IsGiven, IsLeastFrom, Passes, from_above, from_behind, if_fits};
-ghost use Rattle.asn_calls.specs.Enumeration.{AreNumbers, Numbered, NumbersPass, written};
-ghost use Rattle.std.specs.Prelude.{◌≡◌, ℕ, [], IfOk, MatchOption};
+ghost use Rattle.asn_calls.specs.Enumeration.{AreNumbers, Numbered, NumbersPass, SomePasses, written};
+ghost use Rattle.std.specs.Prelude.{◌≡◌, ◌↔◌, ℕ, [], IfOk, IfSome, IsNone, MatchOption};
 
+use crate::taken::Taken;
 use asn_memory::{List, Mem};
 use std::alloc::Global;
 
@@ -15,16 +16,19 @@ pub fn enumerate(
     root: &[Option<i128>],
     additions: &[Option<i128>],
 ) -> Mem<Option<List<i128>>>
-    ensures { IfOk result (λ answer. MatchOption answer (NumbersPass root.now additions.now) (λ numbers. AreNumbers root.now additions.now numbers)) }
+    ensures numbers { IfOk result (λ answer. IfSome answer (λ numbers. AreNumbers root.now additions.now numbers)) }
+    ensures passes { IfOk result (λ answer. IsNone answer ↔ NumbersPass root.now additions.now) }
 {
-    let taken = written(alloc, root)?;
-    let Some(mut numbers) = numbers_of(alloc, root, taken.as_slice(), false)? else {
+    let taken = Taken::new(alloc, written(alloc, root)?)?;
+    let Some(of_root) = numbers_of(alloc, root, &taken, false)? else {
         return Ok(None);
     };
-    let Some(further) = numbers_of(alloc, additions, numbers.as_slice(), true)? else {
+    let taken = Taken::new(alloc, of_root)?;
+    let Some(of_additions) = numbers_of(alloc, additions, &taken, true)? else {
         return Ok(None);
     };
-    numbers.append(further)?;
+    let mut numbers = taken.into_numbers();
+    numbers.append(of_additions)?;
     Ok(Some(numbers))
 }
 
@@ -45,10 +49,11 @@ fn written(alloc: Global, items: &[Option<i128>]) -> Mem<List<i128>>
 fn numbers_of(
     alloc: Global,
     items: &[Option<i128>],
-    taken: &[i128],
+    taken: &Taken,
     counts: bool,
 ) -> Mem<Option<List<i128>>>
-    ensures { IfOk result (λ answer. MatchOption answer (Passes counts taken.now items.now) (λ numbers. Numbered counts taken.now [] items.now numbers)) }
+    ensures numbers { IfOk result (λ answer. MatchOption answer (Passes counts taken.now.numbers items.now) (λ numbers. Numbered counts taken.now.numbers [] items.now numbers)) }
+    ensures fit { IfOk result (λ answer. IfSome answer (λ numbers. SomePasses numbers → ⊥)) }
 {
     let mut numbers = List::new(alloc);
     let mut from = 0;
@@ -63,8 +68,8 @@ fn numbers_of(
 }
 
 // The number that is written, else the least from `from` on that is not taken; None where that would pass `i128`.
-fn number_of(item: Option<i128>, taken: &[i128], from: u128) -> Option<i128>
-    ensures { IsGiven taken.now from item result }
+fn number_of(item: Option<i128>, taken: &Taken, from: u128) -> Option<i128>
+    ensures { IsGiven taken.now.numbers from item result }
 {
     match item {
         Some(number) => Some(number),
@@ -73,12 +78,12 @@ fn number_of(item: Option<i128>, taken: &[i128], from: u128) -> Option<i128>
 }
 
 // The least number from `from` on that is not taken; None where that would pass `i128`.
-fn least_from(taken: &[i128], from: u128) -> Option<i128>
-    ensures { (n : ℕ) × IsLeastFrom taken.now from n × (result ≡ if_fits n) }
+fn least_from(taken: &Taken, from: u128) -> Option<i128>
+    ensures { (n : ℕ) × IsLeastFrom taken.now.numbers from n × (result ≡ if_fits n) }
 {
     let mut number = from;
     while let Some(fitting) = if_fits(number) {
-        if !taken.contains(&fitting) {
+        if !taken.has(fitting) {
             return Some(fitting);
         }
         number += 1;

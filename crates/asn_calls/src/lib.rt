@@ -8,6 +8,7 @@ mod enumeration;
 mod integers;
 mod laws;
 mod strings;
+mod taken;
 
 pub use enumeration::enumerate;
 pub use integers::IntegerTypeCalls;

@@ -4,7 +4,7 @@ use Rattle.asn_calls.proofs.enumeration.least_from.Given as goal
 
 abbrev pub invariant-loop-fitting : goal.invariant-loop-fitting
 invariant-loop-fitting l =
-    (l.from ≤ l.number) × ((k : ℕ) → l.from ≤ k → k < l.number → has l.taken (pos k) ≡ true)
+    (l.from ≤ l.number) × ((k : ℕ) → l.from ≤ k → k < l.number → has l.taken.numbers (pos k) ≡ true)
 
 abbrev pub decreases-loop-fitting : goal.decreases-loop-fitting
 decreases-loop-fitting l = 2 ^ 127 - l.number
