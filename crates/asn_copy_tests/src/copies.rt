@@ -7,9 +7,12 @@ use asn_copy::{
     copy_module_reference, copy_reading, copy_sequence_or_set, copy_sequence_or_set_member,
     copy_subtype_element, copy_text, copy_toplevel_definition, copy_toplevel_type_definition,
 };
+use asn_memory::Mem;
 use asn_modules::{SpecError, asn_spec};
 use asn_tree::{
-    ASN1Type, ASN1Value, Constraint, ElementOrSetOperation, ElementSet, Reading, TaggingEnvironment,
+    ASN1Type, ASN1Value, Constraint, DeclarationElsewhere, ElementOrSetOperation, ElementSet,
+    Integer, ModuleReference, Reading, SequenceOrSet, SequenceOrSetMember, TaggingEnvironment,
+    ToplevelDefinition, ToplevelTypeDefinition,
 };
 use std::alloc::Global;
 use std::test::Fail;
@@ -25,22 +28,46 @@ fn reading_of(alloc: Global, text: &str) -> Result<Reading, SpecError> {
     asn_spec(alloc, text, 512)
 }
 
+// Each function below copies one tree and tells what it looks like, so that none holds more than one or two.
+
+fn is_header_copied(alloc: Global, header: &ModuleReference) -> Mem<bool> {
+    let copy = copy_module_reference(alloc, header)?;
+    Ok(
+        copy.name.as_str() == "TestModule"
+            && copy.tagging_environment == TaggingEnvironment::Automatic,
+    )
+}
+
+fn is_definition_copied(alloc: Global, definition: &ToplevelDefinition) -> Mem<bool> {
+    let copy = copy_toplevel_definition(alloc, definition)?;
+    let name = copy_text(alloc, copy.name())?;
+    Ok(name.as_str() == "My-test-integer")
+}
+
 #[test]
 fn of_readings(rt: HostRuntime) -> Result<(), Fail> {
     let alloc = rt.alloc();
-    let reading = reading_of(alloc, WHOLE)?;
-    let reading = copy_reading(alloc, &reading)?;
+    let reading = copy_reading(alloc, &reading_of(alloc, WHOLE)?)?;
     assert_eq!(rt; reading.len(), 1);
     let (header, definitions) = reading.get(0).ok_or("a module")?;
-    let header = copy_module_reference(alloc, header)?;
-    assert_eq!(rt; header.name.as_str(), "TestModule");
-    assert_eq!(rt; header.tagging_environment, TaggingEnvironment::Automatic);
-    let definition = copy_toplevel_definition(alloc, definitions.get(0).ok_or("a definition")?)?;
-    assert_eq!(rt;
-        copy_text(alloc, definition.name())?.as_str(),
-        "My-test-integer"
-    );
+    assert!(rt; is_header_copied(alloc, header)?);
+    assert!(rt; is_definition_copied(alloc, definitions.get(0).ok_or("a definition")?)?);
     Ok(())
+}
+
+fn range_of_type(alloc: Global, ty: &ASN1Type) -> Mem<Option<(i128, i128)>> {
+    Ok(range_in(&copy_asn1_type(alloc, ty)?))
+}
+
+fn range_of_integer(alloc: Global, integer: &Integer) -> Mem<Option<(i128, i128)>> {
+    let copy = copy_integer(alloc, integer)?;
+    let constraints = copy_list(alloc, &copy.constraints)?;
+    Ok(constraints.get(0).and_then(range_of))
+}
+
+fn name_of_type_definition(alloc: Global, definition: &ToplevelTypeDefinition) -> Mem<bool> {
+    let copy = copy_toplevel_type_definition(alloc, definition)?;
+    Ok(copy.name.as_str() == "My-test-integer")
 }
 
 #[test]
@@ -48,14 +75,27 @@ fn of_definitions(rt: HostRuntime) -> Result<(), Fail> {
     let alloc = rt.alloc();
     let reading = reading_of(alloc, WHOLE)?;
     let definition = first_definition(&reading).ok_or("a definition")?;
-    let copy = copy_toplevel_type_definition(alloc, definition)?;
-    assert_eq!(rt; copy.name.as_str(), "My-test-integer");
-    let ty = copy_asn1_type(alloc, &copy.ty)?;
-    assert_eq!(rt; range_in(&ty), Some((1, 128)));
-    let integer = copy_integer(alloc, integer_in(&ty).ok_or("an integer")?)?;
-    let constraints = copy_list(alloc, &integer.constraints)?;
-    assert_eq!(rt; constraints.get(0).and_then(range_of), Some((1, 128)));
+    assert!(rt; name_of_type_definition(alloc, definition)?);
+    assert_eq!(rt; range_of_type(alloc, &definition.ty)?, Some((1, 128)));
+    let integer = integer_in(&definition.ty).ok_or("an integer")?;
+    assert_eq!(rt; range_of_integer(alloc, integer)?, Some((1, 128)));
     Ok(())
+}
+
+fn range_of_constraint(alloc: Global, constraint: &Constraint) -> Mem<Option<(i128, i128)>> {
+    Ok(range_of(&copy_constraint(alloc, constraint)?))
+}
+
+fn range_of_set(alloc: Global, set: &ElementSet) -> Mem<Option<(i128, i128)>> {
+    let copy = copy_element_set(alloc, set)?;
+    match &copy.set {
+        ElementOrSetOperation::Element(element) => Ok(ends_of(element)),
+    }
+}
+
+fn range_of_element(alloc: Global, element: &ElementOrSetOperation) -> Mem<Option<(i128, i128)>> {
+    let ElementOrSetOperation::Element(copy) = copy_element_or_set_operation(alloc, element)?;
+    Ok(ends_of(&copy_subtype_element(alloc, &copy)?))
 }
 
 #[test]
@@ -64,24 +104,12 @@ fn of_constraints(rt: HostRuntime) -> Result<(), Fail> {
     let reading = reading_of(alloc, WHOLE)?;
     let definition = first_definition(&reading).ok_or("a definition")?;
     let integer = integer_in(&definition.ty).ok_or("an integer")?;
-    let constraint = copy_constraint(alloc, integer.constraints.get(0).ok_or("a constraint")?)?;
-    assert_eq!(rt; range_of(&constraint), Some((1, 128)));
-    let Constraint::SubtypeConstraint(set) = &constraint;
-    assert_eq!(rt;
-        range_of_set(&copy_element_set(alloc, set)?),
-        Some((1, 128))
-    );
-    let ElementOrSetOperation::Element(element) = copy_element_or_set_operation(alloc, &set.set)?;
-    let element = copy_subtype_element(alloc, &element)?;
-    assert_eq!(rt; ends_of(&element), Some((1, 128)));
+    let constraint = integer.constraints.get(0).ok_or("a constraint")?;
+    assert_eq!(rt; range_of_constraint(alloc, constraint)?, Some((1, 128)));
+    let Constraint::SubtypeConstraint(set) = constraint;
+    assert_eq!(rt; range_of_set(alloc, set)?, Some((1, 128)));
+    assert_eq!(rt; range_of_element(alloc, &set.set)?, Some((1, 128)));
     Ok(())
-}
-
-// The ends of the range that a set is.
-fn range_of_set(set: &ElementSet) -> Option<(i128, i128)> {
-    match &set.set {
-        ElementOrSetOperation::Element(element) => ends_of(element),
-    }
 }
 
 #[test]
@@ -91,19 +119,41 @@ fn of_values(rt: HostRuntime) -> Result<(), Fail> {
     Ok(())
 }
 
+fn is_member_copied(alloc: Global, member: &SequenceOrSetMember) -> Mem<bool> {
+    let copy = copy_sequence_or_set_member(alloc, member)?;
+    Ok(copy.name.as_str() == "b" && !copy.is_optional && copy.tag.is_none())
+}
+
+fn is_sequence_copied(alloc: Global, sequence: &SequenceOrSet) -> Mem<bool> {
+    let copy = copy_sequence_or_set(alloc, sequence)?;
+    Ok(copy.members.len() == 2 && copy.extensible == None)
+}
+
 #[test]
 fn of_sequences(rt: HostRuntime) -> Result<(), Fail> {
     let alloc = rt.alloc();
     let reading = reading_of(alloc, SEQUENCE)?;
     let definition = first_definition(&reading).ok_or("a definition")?;
     let sequence = sequence_in(&definition.ty).ok_or("a sequence")?;
-    let copy = copy_sequence_or_set(alloc, sequence)?;
-    assert_eq!(rt; copy.members.len(), 2);
-    assert_eq!(rt; copy.extensible, None);
-    let member = copy_sequence_or_set_member(alloc, copy.members.get(1).ok_or("a member")?)?;
-    assert_eq!(rt; member.name.as_str(), "b");
-    assert!(rt; !member.is_optional && member.tag.is_none());
+    assert!(rt; is_sequence_copied(alloc, sequence)?);
+    assert!(rt; is_member_copied(alloc, sequence.members.get(1).ok_or("a member")?)?);
     Ok(())
+}
+
+fn is_reference_copied(alloc: Global, reference: &DeclarationElsewhere) -> Mem<bool> {
+    let copy = copy_declaration_elsewhere(alloc, reference)?;
+    Ok(copy.identifier.as_str() == "B" && copy.parent.is_none())
+}
+
+// Whether a truth value's type and a type reference are copied as they are.
+fn are_copied(alloc: Global, first: &ASN1Type, second: &ASN1Type) -> Mem<bool> {
+    match (first, second) {
+        (ASN1Type::Boolean(boolean), ASN1Type::ElsewhereDeclaredType(reference)) => {
+            let copy = copy_boolean(alloc, boolean)?;
+            Ok(copy.constraints.is_empty() && is_reference_copied(alloc, reference)?)
+        }
+        _ => Ok(false),
+    }
 }
 
 #[test]
@@ -112,17 +162,8 @@ fn of_simple_types(rt: HostRuntime) -> Result<(), Fail> {
     let reading = reading_of(alloc, SEQUENCE)?;
     let definition = first_definition(&reading).ok_or("a definition")?;
     let sequence = sequence_in(&definition.ty).ok_or("a sequence")?;
-    match sequence.members.as_slice() {
-        [first, second] => match (&first.ty, &second.ty) {
-            (ASN1Type::Boolean(boolean), ASN1Type::ElsewhereDeclaredType(reference)) => {
-                assert!(rt; copy_boolean(alloc, boolean)?.constraints.is_empty());
-                let reference = copy_declaration_elsewhere(alloc, reference)?;
-                assert_eq!(rt; reference.identifier.as_str(), "B");
-                assert!(rt; reference.parent.is_none());
-            }
-            _ => assert!(rt; false, "other types"),
-        },
-        _ => assert!(rt; false, "other members"),
-    }
+    let first = sequence.members.get(0).ok_or("a member")?;
+    let second = sequence.members.get(1).ok_or("a member")?;
+    assert!(rt; are_copied(alloc, &first.ty, &second.ty)?);
     Ok(())
 }
