@@ -88,12 +88,14 @@ parts_Decide a b =
     let d =
     both_Decides _ _
     (both_Decides _ _
+    (both_Decides _ _
     (both_Decides _ _ (texts_Decide a.source b.source) (Decides-eqb a.start b.start))
     (Decides-eqb a.end b.end))
+    (Decides-eqb a.context_line b.context_line))
     (Decides-eqb a.context_start b.context_start) in (
       λ h. let e = d.0 h in
-          λ i. record { source = e.0.0.0 i; start = e.0.0.1 i; end = e.0.1 i; context_start = e.1 i },
-      λ e. d.1 ((((ap (λ p. p.source) e, ap (λ p. p.start) e), ap (λ p. p.end) e), ap (λ p. p.context_start) e)),
+          λ i. record { source = e.0.0.0.0 i; start = e.0.0.0.1 i; end = e.0.0.1 i; context_line = e.0.1 i; context_start = e.1 i },
+      λ e. d.1 (((((ap (λ p. p.source) e, ap (λ p. p.start) e), ap (λ p. p.end) e), ap (λ p. p.context_line) e), ap (λ p. p.context_start) e)),
     )
 
 links_Decide : (a b : Link) → Decides (links_eq a b) (a ≡ b)

@@ -10,8 +10,10 @@ part_eq_equivalence : IsEquivalence part_eq
 part_eq_equivalence =
     and_equiv
     (and_equiv
+    (and_equiv
     (and_equiv (on_texts_equal (λ part. part.source)) (on_equiv (λ part. part.start) nat_eq_equiv))
     (on_equiv (λ part. part.end) nat_eq_equiv))
+    (on_equiv (λ part. part.context_line) nat_eq_equiv))
     (on_equiv (λ part. part.context_start) nat_eq_equiv)
 
 pub input_eq_equivalence : IsEquivalence input_eq

@@ -101,7 +101,7 @@ pub record IsReportOf (part : Part) (why : List ℕ) (report : ReportData) : Typ
   pub line : report.line ≡ line_at part.source part.start
   pub column : report.column ≡ column_at part.source part.start
   pub offset : report.offset ≡ part.start
-  pub context_start_line : report.context_start_line ≡ line_at part.source part.context_start
+  pub context_start_line : report.context_start_line ≡ part.context_line
   pub context_start_offset : report.context_start_offset ≡ part.context_start
   pub reason : report.reason.now ≡ why
   pub unexpected_eof : report.unexpected_eof ≡ nat_eq (length (shown part)) 0

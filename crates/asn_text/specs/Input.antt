@@ -9,6 +9,7 @@ part_of input = record {
   source = input.source.now;
   start = input.offset;
   end = input.end;
+  context_line = input.context_start_line;
   context_start = input.context_start_offset;
 }
 

@@ -22,7 +22,6 @@ pub struct Input<'a> {
     ghost end_on_boundary: { IsCharBoundary source.now end },
     ghost line_counted: { line ≡ line_at source.now offset },
     ghost column_counted: { column ≡ column_at source.now offset },
-    ghost context_counted: { context_start_line ≡ line_at source.now context_start_offset },
 }
 
 impl<'a> From<&'a str> for Input<'a> {
@@ -64,6 +63,7 @@ impl PartialEq for Input<'_> {
         self.source == other.source
             && self.offset == other.offset
             && self.end == other.end
+            && self.context_start_line == other.context_start_line
             && self.context_start_offset == other.context_start_offset
     }
 }
@@ -132,7 +132,7 @@ impl<'a> Input<'a> {
 
     /// The line where the context begins, counted from 1.
     pub fn context_start_line(&self) -> usize
-        ensures { let part = part_of self.now in result ≡ line_at part.source part.context_start }
+        ensures { result ≡ (part_of self.now).context_line }
     {
         self.context_start_line
     }

@@ -11,6 +11,3 @@ invariant_of-result-clause-line_counted c = sym (line_at_start c.args.source.now
 
 pub invariant_of-result-clause-column_counted : goal.invariant_of-result-clause-column_counted
 invariant_of-result-clause-column_counted c = sym (column_at_start c.args.source.now)
-
-pub invariant_of-result-clause-context_counted : goal.invariant_of-result-clause-context_counted
-invariant_of-result-clause-context_counted c = sym (line_at_start c.args.source.now)
