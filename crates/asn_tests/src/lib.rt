@@ -15,8 +15,7 @@ mod memory;
 mod names;
 #[cfg(test)]
 mod places;
-#[cfg(test)]
-mod readings;
+pub mod readings;
 #[cfg(test)]
 mod rules;
 #[cfg(test)]

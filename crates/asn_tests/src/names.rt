@@ -1,15 +1,37 @@
 //! Names over the definitions of two modules.
 
-use crate::readings::{definitions_of, reading_of};
-use asn_memory::List;
+use crate::readings::reading_of;
+use asn_copy::copy_toplevel_definition;
+use asn_memory::{List, Mem};
 use asn_names::{Fault, Names};
-use asn_tree::{ASN1Type, ToplevelDefinition};
+use asn_tree::{ASN1Type, Reading, ToplevelDefinition};
 use std::alloc::Global;
 use std::test::Fail;
 
 // `Id` stands in both modules, and `B` names a type of the other module.
 const TEXT: &str =
     "M DEFINITIONS ::= BEGIN Id ::= BOOLEAN A ::= BOOLEAN END N DEFINITIONS ::= BEGIN Id ::= SEQUENCE { a X } B ::= SEQUENCE { a A } END";
+
+// Adds copies of these definitions.
+fn add_copies(
+    alloc: Global,
+    all: &mut List<ToplevelDefinition>,
+    definitions: &[ToplevelDefinition],
+) -> Mem<()> {
+    for definition in definitions {
+        all.add(copy_toplevel_definition(alloc, definition)?)?;
+    }
+    Ok(())
+}
+
+// Copies of all definitions of a reading, in order.
+fn definitions_of(alloc: Global, reading: &Reading) -> Mem<List<ToplevelDefinition>> {
+    let mut all = List::new(alloc);
+    for (_, definitions) in reading.as_slice() {
+        add_copies(alloc, &mut all, definitions.as_slice())?;
+    }
+    Ok(all)
+}
 
 fn definitions(alloc: Global) -> Result<List<ToplevelDefinition>, Fail> {
     let reading = reading_of(alloc, TEXT)?;

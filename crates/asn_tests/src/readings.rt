@@ -1,33 +1,15 @@
-//! What the readers make of a text.
+//! What the readers make of a text: the one part of this crate that is there without its tests.
 
-use asn_copy::copy_toplevel_definition;
-use asn_memory::{List, Mem};
+ghost use Rattle.asn_modules.specs.Whole.{IsReading};
+ghost use Rattle.std.specs.Prelude.{IfOk};
+
 use asn_modules::{SpecError, asn_spec};
-use asn_tree::{Reading, ToplevelDefinition};
+use asn_tree::Reading;
 use std::alloc::Global;
 
-/// The reading of a text.
-pub fn reading_of(alloc: Global, text: &str) -> Result<Reading, SpecError> {
+/// The reading of a text (X.680 13.1), within a depth of 512. The errors are those of `asn_spec`.
+pub fn reading_of(alloc: Global, text: &str) -> Result<Reading, SpecError>
+    ensures { IfOk result (λ reading. IsReading text.now reading) }
+{
     asn_spec(alloc, text, 512)
-}
-
-// Adds copies of these definitions.
-fn add_copies(
-    alloc: Global,
-    all: &mut List<ToplevelDefinition>,
-    definitions: &[ToplevelDefinition],
-) -> Mem<()> {
-    for definition in definitions {
-        all.add(copy_toplevel_definition(alloc, definition)?)?;
-    }
-    Ok(())
-}
-
-/// Copies of all definitions of a reading, in order.
-pub fn definitions_of(alloc: Global, reading: &Reading) -> Mem<List<ToplevelDefinition>> {
-    let mut all = List::new(alloc);
-    for (_, definitions) in reading.as_slice() {
-        add_copies(alloc, &mut all, definitions.as_slice())?;
-    }
-    Ok(all)
 }
