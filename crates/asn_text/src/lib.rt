@@ -1,7 +1,8 @@
 //! Parts of a source text with their positions: where a reader of the text stands.
 //!
-//! It stands on the texts, lists and boxes of `asn_memory`, which it hands on. The readers and the errors of the
-//! crates above speak of places in a text through it; it knows nothing of trees.
+//! It stands on the texts, lists and boxes of `asn_memory`, which it hands on, on the marks of `asn_markers`, and its
+//! lexical readers on the rules of `asn_rules`. The readers and the errors of the crates above speak of places in a
+//! text through it; it knows nothing of trees.
 #![tactic(auto)]
 
 mod at_least_one;
@@ -12,7 +13,6 @@ mod errors;
 mod fault;
 mod gap;
 mod input;
-mod markers;
 mod marks;
 mod numbers;
 mod place;
@@ -22,6 +22,7 @@ mod report;
 mod tests;
 mod until;
 
+pub use asn_markers::{ExtensionMarker, OptionalMarker, RangeSeperator};
 pub use asn_memory::{Box, List, Mem, OutOfMemory, Text};
 pub use asn_rules::ASN1_KEYWORDS;
 pub use bits::hex_to_bools;
@@ -32,7 +33,6 @@ pub use errors::{
 pub use fault::{ParseFault, ParserResult};
 pub use gap::{skip_ws, skip_ws_and_comments, symbol, word};
 pub use input::Input;
-pub use markers::{ExtensionMarker, OptionalMarker, RangeSeperator};
 pub use marks::{extension_marker, optional_comma, range_seperator};
 pub use numbers::{number_i32, number_i128, number_u64, number_u128};
 pub use readers::{

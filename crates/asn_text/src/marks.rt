@@ -9,8 +9,8 @@ ghost use Rattle.asn_text.specs.Reads.{Reads, IsFaultOf, IsMark, IsComma};
 
 use crate::fault::ParserResult;
 use crate::input::Input;
-use crate::markers::{ExtensionMarker, RangeSeperator};
 use crate::readers::end_of;
+use asn_markers::{ExtensionMarker, RangeSeperator};
 use asn_rules::names::{EXTENSION_MARKER, OPTIONAL_COMMA, RANGE_SEPERATOR};
 
 /// The two dots of a range (X.680 12.21). Blanks and comments may stand before them.

@@ -1,4 +1,8 @@
 //! Marks that a reader has found and that hold nothing else.
+//!
+//! It stands on the standard library alone. The lexical readers answer these marks, and the trees' constructors take
+//! them, so that neither room has to know the other.
+#![tactic(auto)]
 
 /// The word `OPTIONAL` (X.680 25.1).
 #[derive(Clone, Copy, Debug, PartialEq, Eq)]
