@@ -1,5 +1,7 @@
 //! `Box`: one owned value on the heap, seen by contracts as that value.
 
+ghost use Rattle.asn_memory.specs.contracts.boxed.Box.{the_row};
+ghost use Rattle.std.specs.Borrow.{Lends, sem};
 ghost use Rattle.std.specs.Prelude.{◌≡◌, IfOk};
 
 use crate::memory::Mem;
@@ -14,6 +16,8 @@ pub struct Box<T> {
 }
 
 impl<T> Model for Box<T> {
+    ghost use Rattle.std.specs.Prelude.{IfOk};
+
     ghost Value = { T };
 
     ghost coded = { T.code };
@@ -27,6 +31,14 @@ impl<T> Box<T> {
         ensures { result.now ≡ self.now }
     {
         &self.inner
+    }
+
+    /// The value, to be changed.
+    pub fn get_mut(&mut self) -> &mut T
+        ensures* writes_back { sem 𝓛 (Lends (the_row T.row) T.row self.entry result (λ w. w)) }
+        ensures value { result.now ≡ self.old }
+    {
+        &mut self.inner
     }
 
     /// Takes the value out.
