@@ -1,7 +1,9 @@
 -- Laws of the calls.
-use Rattle.std.specs.Prelude.{◌≡◌, ◌≤◌, ◌⊎◌, ℤ, false, List, [], ◌∷◌, ◌++◌, Option, Some, None, ⊤}
+use Rattle.std.specs.Prelude.{◌≡◌, ◌≤◌, ◌⊎◌, ℤ, true, false, List, [], ◌∷◌, ◌++◌, Option, Some, None, ⊤}
+use Rattle.asn_tree.specs.declared.constraints.Constraint.{Constraint}
 use Rattle.asn_tree.specs.declared.plain.IntegerType.{IntegerType}
-use Rattle.asn_calls.specs.Integers.{place, earlier}
+use Rattle.asn_calls.specs.Admitting.{AllAdmit}
+use Rattle.asn_calls.specs.Integers.{place, earlier, holds, type_of_all}
 use Rattle.asn_calls.specs.Enumeration.{has, written, IsAbove, AreOfRoot, AreOfAdditions, AreNumbers, NumbersPass, SomePasses}
 
 -- An enumeration has one list of numbers. So where some number passes 128 bits, no list within them has the numbers.
@@ -31,3 +33,7 @@ pub record EarlierIsLeast : Type 0 where
   pub is_one : (a b : IntegerType) → (earlier a b ≡ a) ⊎ (earlier a b ≡ b)
   pub is_least_left : (a b : IntegerType) → place (earlier a b) ≤ place a
   pub is_least_right : (a b : IntegerType) → place (earlier a b) ≤ place b
+
+-- Each whole number that all constraints of an INTEGER admit is one of the type's that they give.
+abbrev pub AdmittedIsHeld : Type 0
+AdmittedIsHeld = (constraints : List Constraint) (i : ℤ) → AllAdmit constraints i → holds (type_of_all constraints) i ≡ true

@@ -1,5 +1,12 @@
+pub mod Admitting
+pub mod Constraints
 pub mod Counting
 pub mod Enumeration
+pub mod Faults
 pub mod Integers
 pub mod Laws
+pub mod Paths
+pub mod Rows
 pub mod Strings
+pub mod Tagging
+pub mod Types

@@ -1,6 +1,6 @@
 //! Laws of the calls, each the contract of a function without a body.
 
-ghost use Rattle.asn_calls.specs.Laws.{EarlierIsLeast, NumbersAreDistinct, NumbersAreOne};
+ghost use Rattle.asn_calls.specs.Laws.{AdmittedIsHeld, EarlierIsLeast, NumbersAreDistinct, NumbersAreOne};
 
 /// The numbers of an enumeration are determined: `enumerate` has one list to give, or none within `i128`.
 pub fn numbers_are_one()
@@ -16,4 +16,9 @@ pub fn numbers_are_distinct()
 /// `max_restrictive` gives one of its arguments, the least in its order.
 pub fn max_restrictive_is_least()
     ensures { EarlierIsLeast }
+{}
+
+/// Each whole number that all constraints of an INTEGER accept lies in the range of `int_type`.
+pub fn int_type_holds_what_is_admitted()
+    ensures { AdmittedIsHeld }
 {}

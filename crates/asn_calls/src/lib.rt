@@ -4,13 +4,28 @@
 //! function of a trait that is named after the type with `Calls` behind it. `enumerate` numbers an enumeration.
 #![tactic(auto)]
 
+mod builtin;
+mod constrainable;
+mod constraints;
 mod enumeration;
 mod integers;
 mod laws;
+mod names;
+mod paths;
 mod strings;
+mod tagging;
 mod taken;
+mod types;
 
+pub use constrainable::Constrainable;
+pub use constraints::ConstraintCalls;
 pub use enumeration::enumerate;
-pub use integers::IntegerTypeCalls;
-pub use laws::{max_restrictive_is_least, numbers_are_distinct, numbers_are_one};
+pub use integers::{IntegerCalls, IntegerTypeCalls};
+pub use laws::{
+    int_type_holds_what_is_admitted, max_restrictive_is_least, numbers_are_distinct,
+    numbers_are_one,
+};
+pub use paths::{InformationObjectFieldReferenceCalls, ObjectFieldIdentifierCalls};
 pub use strings::CharacterStringTypeCalls;
+pub use tagging::ToplevelDefinitionCalls;
+pub use types::ASN1TypeCalls;

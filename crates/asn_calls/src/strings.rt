@@ -1,6 +1,6 @@
 //! Calls on the character string types.
 
-ghost use Rattle.asn_calls.specs.Strings.{alone, characters, numbered, span};
+ghost use Rattle.asn_calls.specs.Strings.{alone, characters, numbered, span, string_named, string_word};
 ghost use Rattle.std.specs.Option.{option_to_list};
 ghost use Rattle.std.specs.Prelude.{◌≡◌, ◌++◌, IfOk, OnErr, OnOk};
 
@@ -86,4 +86,44 @@ fn numbered(alloc: Global, characters: &[char]) -> Mem<BTreeMap<usize, char>>
         set.insert(place, characters[place])?;
     }
     Ok(set)
+}
+
+/// The type's word.
+pub(crate) fn string_word(ty: CharacterStringType) -> &'static str
+    ensures { result.now ≡ string_word ty }
+{
+    match ty {
+        CharacterStringType::NumericString => "NumericString",
+        CharacterStringType::VisibleString => "VisibleString",
+        CharacterStringType::IA5String => "IA5String",
+        CharacterStringType::TeletexString => "TeletexString",
+        CharacterStringType::VideotexString => "VideotexString",
+        CharacterStringType::GraphicString => "GraphicString",
+        CharacterStringType::GeneralString => "GeneralString",
+        CharacterStringType::UniversalString => "UniversalString",
+        CharacterStringType::UTF8String => "UTF8String",
+        CharacterStringType::BMPString => "BMPString",
+        CharacterStringType::PrintableString => "PrintableString",
+    }
+}
+
+/// The type of this word.
+#[tactic(auto, unfolding(crate::specs::Strings::string_named))]
+pub(crate) fn string_named(word: &str) -> Option<CharacterStringType>
+    ensures { result ≡ string_named word.now }
+{
+    match word {
+        "NumericString" => Some(CharacterStringType::NumericString),
+        "VisibleString" => Some(CharacterStringType::VisibleString),
+        "IA5String" => Some(CharacterStringType::IA5String),
+        "TeletexString" => Some(CharacterStringType::TeletexString),
+        "VideotexString" => Some(CharacterStringType::VideotexString),
+        "GraphicString" => Some(CharacterStringType::GraphicString),
+        "GeneralString" => Some(CharacterStringType::GeneralString),
+        "UniversalString" => Some(CharacterStringType::UniversalString),
+        "UTF8String" => Some(CharacterStringType::UTF8String),
+        "BMPString" => Some(CharacterStringType::BMPString),
+        "PrintableString" => Some(CharacterStringType::PrintableString),
+        _ => None,
+    }
 }

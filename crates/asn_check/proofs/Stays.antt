@@ -5,45 +5,46 @@ use Rattle.std.specs.List.{list_any}
 use Rattle.std.specs.Str.{bytes_eq}
 use Rattle.std.proofs.lemmas.List.Folds.{fold-map}
 use Rattle.asn_tree.specs.declared.definitions.ToplevelDefinition.{ToplevelDefinition}
-use Rattle.asn_tree.specs.declared.definitions.ToplevelDefinition.TheVariants.{TypeDef}
+use Rattle.asn_tree.specs.declared.definitions.ToplevelDefinition.TheVariants.{TypeDef, Value, Information}
+use Rattle.asn_tree.specs.Tagging.{retagged}
 use Rattle.asn_tree.specs.declared.headers.TaggingEnvironment.{TaggingEnvironment}
-use Rattle.asn_check.specs.Meaning.{KeepsMeaning, Meant}
+use Rattle.asn_check.specs.Meaning.{KeepsMeaning}
 use Rattle.asn_check.specs.Warnings.{fault_at, fault_on, of_fault, of_duplicate, warnings_on, warnings_of}
-use Rattle.asn_names.specs.Definitions.{Definitions, Module, definitions_of, see, type_of, name_of, is_named, is_duplicate, IsStanding}
+use Rattle.asn_names.specs.Definitions.{Definitions, Module, definitions_of, see, own_type, type_of, name_of, is_named, is_duplicate, IsStanding}
 use Rattle.asn_names.specs.Faults.{is_missing, fault_of}
 use Rattle.asn_names.specs.declared.faults.Fault.TheVariants.{MissingDependency}
 use Rattle.asn_names.specs.Given.{IsGiven}
 use Rattle.asn_names.specs.Kept.{given, given_from, given_since, given_definitions}
 use Rattle.asn_names.specs.Laws.{SeesGiven, LinkedAcceptsAlike, RetaggingKeepsNames, RetaggingKeepsPlainForm}
-use Rattle.asn_names.specs.Meaning.{is_plain}
 use Rattle.asn_names.specs.Occurrences.{names_of}
-
-pub given_type_plain : RetaggingKeepsPlainForm → (environment : TaggingEnvironment) (home item : ℕ) (d : ToplevelDefinition) → is_plain (type_of (given environment home item d)) ≡ is_plain (type_of d)
-given_type_plain law environment home item (TypeDef d) = law environment d.ty
 
 given_names : RetaggingKeepsNames → (environment : TaggingEnvironment) (home item : ℕ) (d : ToplevelDefinition) → names_of (given environment home item d) ≡ names_of d
 given_names law environment home item (TypeDef d) = law environment d.ty
+given_names law environment home item (Value d) = refl
+given_names law environment home item (Information d) = refl
 
 given_name : (environment : TaggingEnvironment) (home item : ℕ) (d : ToplevelDefinition) → name_of (given environment home item d) ≡ name_of d
 given_name environment home item (TypeDef d) = refl
+given_name environment home item (Value d) = refl
+given_name environment home item (Information d) = refl
 
-pub keeps : SeesGiven → LinkedAcceptsAlike → RetaggingKeepsPlainForm → (reading : List Module) (linked : Definitions) → IsStanding (given_definitions reading) linked → KeepsMeaning reading linked
-keeps sees alike plain reading linked standing name d seen clean free = go (see (given_definitions reading) name) refl (subst (λ o. IsGiven o (see (given_definitions reading) name)) seen (sees reading name))
-  where
-    go : (o : Option ToplevelDefinition) → see (given_definitions reading) name ≡ o → IsGiven (Some d) (see (given_definitions reading) name) → Meant reading linked name d
-    go None e g = absurd (subst (IsGiven (Some d)) e g)
-    go (Some e) is g =
-        let is_given = subst (IsGiven (Some d)) is g in
-        let stands = standing.each name ∙ is in
-        (e, stands, alike reading linked standing name d e seen stands, ap (λ x. is_plain (type_of x)) is_given.3 ∙ given_type_plain plain is_given.0 is_given.1 is_given.2 d)
+given_typed : (environment : TaggingEnvironment) (home item : ℕ) (d : ToplevelDefinition) → is_none (type_of (given environment home item d)) ≡ is_none (type_of d)
+given_typed environment home item (TypeDef d) = refl
+given_typed environment home item (Value d) = refl
+given_typed environment home item (Information d) = refl
+
+pub keeps : LinkedAcceptsAlike → RetaggingKeepsPlainForm → (reading : List Module) (linked : Definitions) → IsStanding (given_definitions reading) linked → KeepsMeaning reading linked
+keeps alike plain reading linked standing name d seen ty is clean free =
+    let a = alike reading linked standing name ty (ap own_type seen ∙ is) in
+    (retagged a.0 ty, a.1, a.2, plain a.0 ty)
 
 module _ (sees : SeesGiven) (same_names : RetaggingKeepsNames) (reading : List Module) where
   missing_same : (name : List ℕ) → is_missing (given_definitions reading) name ≡ is_missing (definitions_of reading) name
   missing_same name = go (see (definitions_of reading) name) (see (given_definitions reading) name) (sees reading name)
     where
-      go : (o p : Option ToplevelDefinition) → IsGiven o p → is_none p ≡ is_none o
+      go : (o p : Option ToplevelDefinition) → IsGiven o p → is_none (own_type p) ≡ is_none (own_type o)
       go None None g = refl
-      go (Some d) (Some e) g = refl
+      go (Some d) (Some e) g = ap (λ x. is_none (type_of x)) g.3 ∙ given_typed g.0 g.1 g.2 d
       go (Some d) None g = absurd g
       go None (Some e) g = absurd g
 

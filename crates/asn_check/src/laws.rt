@@ -10,7 +10,6 @@ use asn_names::{
 pub fn standing_keeps_meaning()
     ensures { StandingKeepsMeaning }
 {
-    sees_given();
     linked_accepts_alike();
     retagging_keeps_plain_form();
 }

@@ -21,6 +21,8 @@ fn write_definition(alloc: Global, out: &mut Text, definition: &ToplevelDefiniti
             write_type(alloc, out, &definition.ty)?;
             out.push_str("\n")
         }
+        ToplevelDefinition::Value(_) => Ok(()),
+        ToplevelDefinition::Information(_) => Ok(()),
     }
 }
 

@@ -1,6 +1,7 @@
 //! The text of types, their members and their constraints.
 
-ghost use Rattle.asn_tree.specs.Listing.{constraint_text, constraints_text, element_text, end_text, lead, member_text, separated, set_text, struct_text, type_text, value_text, when};
+ghost use Rattle.asn_tree.specs.Listing.{constraint_text, element_text, end_line, joined, lead, member_text, separated, set_text, struct_text, type_text, value_text, when};
+ghost use Rattle.std.specs.Option.{option_map};
 ghost use Rattle.std.specs.Prelude.{◌≡◌, ◌++◌, OnOk, map, true};
 
 use asn_memory::{Mem, Text};
@@ -19,12 +20,13 @@ fn write_value(alloc: Global, out: &mut Text, value: &ASN1Value) -> Mem<()>
             let digits = number.to_string(alloc)?;
             out.push_str(digits.as_str())
         }
+        _ => Ok(()),
     }
 }
 
 /// An end of a range; where it is absent, the word.
 fn write_end(alloc: Global, out: &mut Text, word: &str, end: &Option<ASN1Value>) -> Mem<()>
-    ensures { OnOk result (out.new ≡ out.old ++ end_text word.now end.now) }
+    ensures { OnOk result (out.new ≡ out.old ++ end_line word.now (option_map value_text end.now)) }
 {
     match end {
         Some(value) => write_value(alloc, out, value),
@@ -57,6 +59,7 @@ fn write_element(alloc: Global, out: &mut Text, element: &SubtypeElement) -> Mem
             write_end(alloc, out, "MAX", max)?;
             write_when(out, *extensible, ", ...")
         }
+        _ => Ok(()),
     }
 }
 
@@ -65,6 +68,7 @@ fn write_set(alloc: Global, out: &mut Text, set: &ElementOrSetOperation) -> Mem<
 {
     match set {
         ElementOrSetOperation::Element(element) => write_element(alloc, out, element),
+        ElementOrSetOperation::SetOperation(_) => Ok(()),
     }
 }
 
@@ -79,11 +83,14 @@ fn write_constraint(alloc: Global, out: &mut Text, constraint: &Constraint) -> M
             write_when(out, set.extensible, ", ...")?;
             out.push_str(")")
         }
+        Constraint::TableConstraint(_) => Ok(()),
+        Constraint::Parameter(_) => Ok(()),
+        Constraint::ContentConstraint(_) => Ok(()),
     }
 }
 
 fn write_constraints(alloc: Global, out: &mut Text, constraints: &[Constraint]) -> Mem<()>
-    ensures { OnOk result (out.new ≡ out.old ++ constraints_text constraints.now) }
+    ensures { OnOk result (out.new ≡ out.old ++ joined (map constraint_text constraints.now)) }
 {
     for constraint in constraints {
         write_constraint(alloc, out, constraint)?;
@@ -113,6 +120,7 @@ pub(crate) fn write_type(alloc: Global, out: &mut Text, ty: &ASN1Type) -> Mem<()
             out.push_str(reference.identifier.as_str())?;
             write_constraints(alloc, out, reference.constraints.as_slice())
         }
+        _ => Ok(()),
     }
 }
 

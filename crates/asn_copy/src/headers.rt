@@ -12,10 +12,22 @@ use asn_tree::{
 use std::alloc::Global;
 
 /// A copy of a text.
+///
+/// Err: want of memory.
 pub fn copy_text(alloc: Global, value: &Text) -> Mem<Text>
     ensures { IfOk result (λ copy. copy ≡ value.now) }
 {
     Text::new(alloc, value.as_str())
+}
+
+/// A copy of a text that may be absent.
+pub(crate) fn copy_optional_text(alloc: Global, text: &Option<Text>) -> Mem<Option<Text>>
+    ensures { IfOk result (λ copy. copy ≡ text.now) }
+{
+    match text {
+        Some(text) => Ok(Some(copy_text(alloc, text)?)),
+        None => Ok(None),
+    }
 }
 
 impl CopyTree for Text {
@@ -25,22 +37,18 @@ impl CopyTree for Text {
 }
 
 /// A copy of an arc.
+///
+/// Err: want of memory.
 pub fn copy_object_identifier_arc(
     alloc: Global,
     value: &ObjectIdentifierArc,
 ) -> Mem<ObjectIdentifierArc>
     ensures { IfOk result (λ copy. copy ≡ value.now) }
 {
-    match &value.name {
-        Some(name) => Ok(ObjectIdentifierArc {
-            name: Some(copy_text(alloc, name)?),
-            number: value.number,
-        }),
-        None => Ok(ObjectIdentifierArc {
-            name: None,
-            number: value.number,
-        }),
-    }
+    Ok(ObjectIdentifierArc {
+        name: copy_optional_text(alloc, &value.name)?,
+        number: value.number,
+    })
 }
 
 impl CopyTree for ObjectIdentifierArc {
@@ -50,6 +58,8 @@ impl CopyTree for ObjectIdentifierArc {
 }
 
 /// A copy of an object identifier value.
+///
+/// Err: want of memory.
 pub fn copy_object_identifier_value(
     alloc: Global,
     value: &ObjectIdentifierValue,
@@ -60,6 +70,8 @@ pub fn copy_object_identifier_value(
 }
 
 /// A copy of the object identifier that names a module.
+///
+/// Err: want of memory.
 pub fn copy_definitive_identifier(
     alloc: Global,
     value: &DefinitiveIdentifier,
@@ -79,6 +91,8 @@ pub fn copy_definitive_identifier(
 }
 
 /// A copy of an encoding reference.
+///
+/// Err: want of memory.
 pub fn copy_encoding_reference_default(
     alloc: Global,
     value: &EncodingReferenceDefault,
@@ -89,6 +103,8 @@ pub fn copy_encoding_reference_default(
 }
 
 /// A copy of a value reference with its module's name.
+///
+/// Err: want of memory.
 pub fn copy_external_value_reference(
     alloc: Global,
     value: &ExternalValueReference,
@@ -102,6 +118,8 @@ pub fn copy_external_value_reference(
 }
 
 /// A copy of the identifier assigned to an imported module.
+///
+/// Err: want of memory.
 pub fn copy_assigned_identifier(
     alloc: Global,
     value: &AssignedIdentifier,
@@ -136,6 +154,8 @@ pub fn copy_assigned_identifier(
 }
 
 /// A copy of the module that an import names.
+///
+/// Err: want of memory.
 pub fn copy_global_module_reference(
     alloc: Global,
     value: &GlobalModuleReference,
@@ -151,6 +171,8 @@ pub fn copy_global_module_reference(
 }
 
 /// A copy of an import.
+///
+/// Err: want of memory.
 pub fn copy_import(alloc: Global, value: &Import) -> Mem<Import>
     ensures { IfOk result (λ copy. copy ≡ value.now) }
 {
@@ -170,6 +192,8 @@ impl CopyTree for Import {
 }
 
 /// A copy of a module's exports.
+///
+/// Err: want of memory.
 pub fn copy_exports(alloc: Global, value: &Exports) -> Mem<Exports>
     ensures { IfOk result (λ copy. copy ≡ value.now) }
 {
@@ -213,6 +237,8 @@ fn copy_optional_exports(alloc: Global, value: &Option<Exports>) -> Mem<Option<E
 }
 
 /// A copy of a module's header.
+///
+/// Err: want of memory.
 pub fn copy_module_reference(alloc: Global, value: &ModuleReference) -> Mem<ModuleReference>
     ensures { IfOk result (λ copy. copy ≡ value.now) }
 {

@@ -1,18 +1,27 @@
 //! Copies of types.
+//!
+//! A struct that is generic in what it holds is copied within `copy_asn1_type` too, since the depth by which the copies
+//! of trees end is that of the trees that lead back to themselves, and not of such a struct.
 
 ghost use Rattle.std.specs.Prelude.{◌≡◌, IfOk};
 
-use crate::headers::copy_text;
-use crate::lists::{CopyTree, copy_list};
+use crate::constraints::copy_constraints;
+use crate::headers::{copy_optional_text, copy_text};
+use crate::lists::{CopyTree, copy_list, copy_optional_list};
+use crate::parts::{both, boxed};
 use crate::values::copy_optional_value;
-use asn_memory::{List, Mem, Text};
+use asn_memory::{List, Mem};
 use asn_tree::{
-    ASN1Type, Boolean, DeclarationElsewhere, DistinguishedValue, Integer, SequenceOrSet,
-    SequenceOrSetMember,
+    ASN1Type, BitString, Boolean, CharacterString, Choice, ChoiceOption, ChoiceSelectionType,
+    DeclarationElsewhere, DistinguishedValue, Enumeral, Enumerated, GeneralizedTime,
+    InformationObjectFieldReference, Integer, ObjectIdentifier, OctetString, Real,
+    SequenceComponent, SequenceOrSet, SequenceOrSetMember, SequenceOrSetOf, Time, UTCTime,
 };
 use std::alloc::Global;
 
 /// A copy of a named number or named bit.
+///
+/// Err: want of memory.
 pub fn copy_distinguished_value(
     alloc: Global,
     value: &DistinguishedValue,
@@ -31,91 +40,189 @@ impl CopyTree for DistinguishedValue {
     }
 }
 
-fn copy_distinguished_values(
-    alloc: Global,
-    values: &Option<List<DistinguishedValue>>,
-) -> Mem<Option<List<DistinguishedValue>>>
-    ensures { IfOk result (λ copy. copy ≡ values.now) }
-{
-    match values {
-        Some(values) => Ok(Some(copy_list(alloc, values)?)),
-        None => Ok(None),
-    }
-}
-
-/// A copy of a BOOLEAN.
-pub fn copy_boolean(alloc: Global, value: &Boolean) -> Mem<Boolean>
+/// A copy of an item of an ENUMERATED.
+///
+/// Err: want of memory.
+pub fn copy_enumeral(alloc: Global, value: &Enumeral) -> Mem<Enumeral>
     ensures { IfOk result (λ copy. copy ≡ value.now) }
 {
-    Ok(Boolean {
-        constraints: copy_list(alloc, &value.constraints)?,
+    let name = copy_text(alloc, &value.name)?;
+    let description = copy_optional_text(alloc, &value.description)?;
+    Ok(Enumeral {
+        name,
+        description,
+        index: value.index,
     })
 }
 
-/// A copy of an INTEGER.
-pub fn copy_integer(alloc: Global, value: &Integer) -> Mem<Integer>
-    ensures { IfOk result (λ copy. copy ≡ value.now) }
-{
-    let constraints = copy_list(alloc, &value.constraints)?;
-    let distinguished_values = copy_distinguished_values(alloc, &value.distinguished_values)?;
-    Ok(Integer {
-        constraints,
-        distinguished_values,
-    })
-}
-
-fn copy_optional_text(alloc: Global, text: &Option<Text>) -> Mem<Option<Text>>
-    ensures { IfOk result (λ copy. copy ≡ text.now) }
-{
-    match text {
-        Some(text) => Ok(Some(copy_text(alloc, text)?)),
-        None => Ok(None),
+impl CopyTree for Enumeral {
+    fn copy_tree(&self, alloc: Global) -> Mem<Enumeral> {
+        copy_enumeral(alloc, self)
     }
 }
 
-/// A copy of a type reference.
-pub fn copy_declaration_elsewhere(
+/// A copy of a selection type.
+///
+/// Err: want of memory.
+pub fn copy_choice_selection_type(
     alloc: Global,
-    value: &DeclarationElsewhere,
-) -> Mem<DeclarationElsewhere>
+    value: &ChoiceSelectionType,
+) -> Mem<ChoiceSelectionType>
     ensures { IfOk result (λ copy. copy ≡ value.now) }
 {
-    let parent = copy_optional_text(alloc, &value.parent)?;
-    let identifier = copy_text(alloc, &value.identifier)?;
-    let constraints = copy_list(alloc, &value.constraints)?;
-    Ok(DeclarationElsewhere {
-        parent,
-        identifier,
-        constraints,
+    let choice_name = copy_text(alloc, &value.choice_name)?;
+    let selected_option = copy_text(alloc, &value.selected_option)?;
+    Ok(ChoiceSelectionType {
+        choice_name,
+        selected_option,
     })
 }
 
 /// A copy of a type.
+///
+/// Err: want of memory.
 #[cycle(copying)]
 pub fn copy_asn1_type(alloc: Global, value: &ASN1Type) -> Mem<ASN1Type>
     ensures { IfOk result (λ copy. copy ≡ value.now) }
 {
     match value {
-        ASN1Type::Boolean(boolean) => Ok(ASN1Type::Boolean(copy_boolean(alloc, boolean)?)),
-        ASN1Type::Integer(integer) => Ok(ASN1Type::Integer(copy_integer(alloc, integer)?)),
+        ASN1Type::Null => Ok(ASN1Type::Null),
+        ASN1Type::Boolean(boolean) => Ok(ASN1Type::Boolean(Boolean {
+            constraints: copy_constraints(alloc, &boolean.constraints)?,
+        })),
+        ASN1Type::Integer(integer) => {
+            let (constraints, distinguished_values) = both(
+                copy_constraints(alloc, &integer.constraints),
+                copy_optional_list(alloc, &integer.distinguished_values),
+            )?;
+            Ok(ASN1Type::Integer(Integer {
+                constraints,
+                distinguished_values,
+            }))
+        }
+        ASN1Type::Real(real) => Ok(ASN1Type::Real(Real {
+            constraints: copy_constraints(alloc, &real.constraints)?,
+        })),
+        ASN1Type::BitString(bits) => {
+            let (constraints, distinguished_values) = both(
+                copy_constraints(alloc, &bits.constraints),
+                copy_optional_list(alloc, &bits.distinguished_values),
+            )?;
+            Ok(ASN1Type::BitString(BitString {
+                constraints,
+                distinguished_values,
+            }))
+        }
+        ASN1Type::OctetString(octets) => Ok(ASN1Type::OctetString(OctetString {
+            constraints: copy_constraints(alloc, &octets.constraints)?,
+        })),
+        ASN1Type::CharacterString(string) => Ok(ASN1Type::CharacterString(CharacterString {
+            constraints: copy_constraints(alloc, &string.constraints)?,
+            ty: string.ty,
+        })),
+        ASN1Type::Enumerated(enumerated) => {
+            let (members, constraints) = both(
+                copy_list(alloc, &enumerated.members),
+                copy_constraints(alloc, &enumerated.constraints),
+            )?;
+            Ok(ASN1Type::Enumerated(Enumerated {
+                members,
+                extensible: enumerated.extensible,
+                constraints,
+            }))
+        }
+        ASN1Type::Choice(choice) => Ok(ASN1Type::Choice(copy_choice(alloc, choice)?)),
         ASN1Type::Sequence(sequence) => {
             Ok(ASN1Type::Sequence(copy_sequence_or_set(alloc, sequence)?))
         }
-        ASN1Type::ElsewhereDeclaredType(reference) => Ok(ASN1Type::ElsewhereDeclaredType(
-            copy_declaration_elsewhere(alloc, reference)?,
+        ASN1Type::SequenceOf(list) => {
+            Ok(ASN1Type::SequenceOf(copy_sequence_or_set_of(alloc, list)?))
+        }
+        ASN1Type::Set(set) => Ok(ASN1Type::Set(copy_sequence_or_set(alloc, set)?)),
+        ASN1Type::SetOf(list) => Ok(ASN1Type::SetOf(copy_sequence_or_set_of(alloc, list)?)),
+        ASN1Type::Time(time) => Ok(ASN1Type::Time(Time {
+            constraints: copy_constraints(alloc, &time.constraints)?,
+        })),
+        ASN1Type::GeneralizedTime(time) => Ok(ASN1Type::GeneralizedTime(GeneralizedTime {
+            constraints: copy_constraints(alloc, &time.constraints)?,
+        })),
+        ASN1Type::UTCTime(time) => Ok(ASN1Type::UTCTime(UTCTime {
+            constraints: copy_constraints(alloc, &time.constraints)?,
+        })),
+        ASN1Type::ElsewhereDeclaredType(reference) => {
+            let ((parent, identifier), constraints) = both(
+                both(
+                    copy_optional_text(alloc, &reference.parent),
+                    copy_text(alloc, &reference.identifier),
+                ),
+                copy_constraints(alloc, &reference.constraints),
+            )?;
+            Ok(ASN1Type::ElsewhereDeclaredType(DeclarationElsewhere {
+                parent,
+                identifier,
+                constraints,
+            }))
+        }
+        ASN1Type::ChoiceSelectionType(selection) => Ok(ASN1Type::ChoiceSelectionType(
+            copy_choice_selection_type(alloc, selection)?,
         )),
+        ASN1Type::ObjectIdentifier(oid) => Ok(ASN1Type::ObjectIdentifier(ObjectIdentifier {
+            constraints: copy_constraints(alloc, &oid.constraints)?,
+        })),
+        ASN1Type::InformationObjectFieldReference(field) => {
+            let ((class, field_path), constraints) = both(
+                both(
+                    copy_text(alloc, &field.class),
+                    copy_list(alloc, &field.field_path),
+                ),
+                copy_constraints(alloc, &field.constraints),
+            )?;
+            Ok(ASN1Type::InformationObjectFieldReference(InformationObjectFieldReference {
+                class,
+                field_path,
+                constraints,
+            }))
+        }
+        ASN1Type::EmbeddedPdv => Ok(ASN1Type::EmbeddedPdv),
+        ASN1Type::External => Ok(ASN1Type::External),
     }
 }
 
+/// A copy of a SEQUENCE OF or SET OF.
+///
+/// Err: want of memory.
+#[cycle(copying)]
+pub fn copy_sequence_or_set_of(alloc: Global, value: &SequenceOrSetOf) -> Mem<SequenceOrSetOf>
+    ensures { IfOk result (λ copy. copy ≡ value.now) }
+{
+    let (constraints, element_type) = both(
+        copy_constraints(alloc, &value.constraints),
+        boxed(alloc, copy_asn1_type(alloc, value.element_type.get())),
+    )?;
+    Ok(SequenceOrSetOf {
+        constraints,
+        element_type,
+        is_recursive: value.is_recursive,
+    })
+}
+
 /// A copy of a SEQUENCE or SET.
+///
+/// Err: want of memory.
 #[cycle(copying)]
 pub fn copy_sequence_or_set(alloc: Global, value: &SequenceOrSet) -> Mem<SequenceOrSet>
     ensures { IfOk result (λ copy. copy ≡ value.now) }
 {
-    let components_of = copy_list(alloc, &value.components_of)?;
-    let components_at = copy_list(alloc, &value.components_at)?;
-    let constraints = copy_list(alloc, &value.constraints)?;
-    let members = copy_members(alloc, &value.members)?;
+    let ((components_of, components_at), (constraints, members)) = both(
+        both(
+            copy_list(alloc, &value.components_of),
+            copy_list(alloc, &value.components_at),
+        ),
+        both(
+            copy_constraints(alloc, &value.constraints),
+            copy_members(alloc, &value.members),
+        ),
+    )?;
     Ok(SequenceOrSet {
         components_of,
         components_at,
@@ -140,6 +247,8 @@ fn copy_members(
 }
 
 /// A copy of a member of a SEQUENCE or SET.
+///
+/// Err: want of memory.
 #[cycle(copying)]
 pub fn copy_sequence_or_set_member(
     alloc: Global,
@@ -147,10 +256,16 @@ pub fn copy_sequence_or_set_member(
 ) -> Mem<SequenceOrSetMember>
     ensures { IfOk result (λ copy. copy ≡ value.now) }
 {
-    let name = copy_text(alloc, &value.name)?;
-    let constraints = copy_list(alloc, &value.constraints)?;
-    let ty = copy_asn1_type(alloc, &value.ty)?;
-    let default_value = copy_optional_value(alloc, &value.default_value)?;
+    let ((name, constraints), (ty, default_value)) = both(
+        both(
+            copy_text(alloc, &value.name),
+            copy_constraints(alloc, &value.constraints),
+        ),
+        both(
+            copy_asn1_type(alloc, &value.ty),
+            copy_optional_value(alloc, &value.default_value),
+        ),
+    )?;
     Ok(SequenceOrSetMember {
         name,
         tag: value.tag,
@@ -158,6 +273,247 @@ pub fn copy_sequence_or_set_member(
         default_value,
         is_optional: value.is_optional,
         is_recursive: value.is_recursive,
+        constraints,
+    })
+}
+
+impl CopyTree for SequenceOrSetMember {
+    fn copy_tree(&self, alloc: Global) -> Mem<SequenceOrSetMember> {
+        copy_sequence_or_set_member(alloc, self)
+    }
+}
+
+/// A copy of a component of a SEQUENCE or SET.
+///
+/// Err: want of memory.
+pub fn copy_sequence_component(alloc: Global, value: &SequenceComponent) -> Mem<SequenceComponent>
+    ensures { IfOk result (λ copy. copy ≡ value.now) }
+{
+    match value {
+        SequenceComponent::Member(member) => Ok(SequenceComponent::Member(
+            copy_sequence_or_set_member(alloc, member)?,
+        )),
+        SequenceComponent::ComponentsOf(name) => {
+            Ok(SequenceComponent::ComponentsOf(copy_text(alloc, name)?))
+        }
+    }
+}
+
+/// A copy of a CHOICE.
+///
+/// Err: want of memory.
+#[cycle(copying)]
+pub fn copy_choice(alloc: Global, value: &Choice) -> Mem<Choice>
+    ensures { IfOk result (λ copy. copy ≡ value.now) }
+{
+    let (options, constraints) = both(
+        copy_options(alloc, &value.options),
+        copy_constraints(alloc, &value.constraints),
+    )?;
+    Ok(Choice {
+        extensible: value.extensible,
+        options,
+        constraints,
+    })
+}
+
+#[cycle(copying)]
+fn copy_options(alloc: Global, options: &List<ChoiceOption>) -> Mem<List<ChoiceOption>>
+    ensures { IfOk result (λ copy. copy ≡ options.now) }
+{
+    let mut copies = List::new(alloc);
+    for option in options.as_slice() {
+        copies.add(copy_choice_option(alloc, option)?)?;
+    }
+    Ok(copies)
+}
+
+/// A copy of an option of a CHOICE.
+///
+/// Err: want of memory.
+#[cycle(copying)]
+pub fn copy_choice_option(alloc: Global, value: &ChoiceOption) -> Mem<ChoiceOption>
+    ensures { IfOk result (λ copy. copy ≡ value.now) }
+{
+    let ((name, ty), constraints) = both(
+        both(
+            copy_text(alloc, &value.name),
+            copy_asn1_type(alloc, &value.ty),
+        ),
+        copy_constraints(alloc, &value.constraints),
+    )?;
+    Ok(ChoiceOption {
+        name,
+        tag: value.tag,
+        ty,
+        constraints,
+        is_recursive: value.is_recursive,
+    })
+}
+
+impl CopyTree for ChoiceOption {
+    fn copy_tree(&self, alloc: Global) -> Mem<ChoiceOption> {
+        copy_choice_option(alloc, self)
+    }
+}
+
+/// A copy of a BOOLEAN.
+///
+/// Err: want of memory.
+pub fn copy_boolean(alloc: Global, value: &Boolean) -> Mem<Boolean>
+    ensures { IfOk result (λ copy. copy ≡ value.now) }
+{
+    Ok(Boolean {
+        constraints: copy_constraints(alloc, &value.constraints)?,
+    })
+}
+
+/// A copy of an INTEGER.
+///
+/// Err: want of memory.
+pub fn copy_integer(alloc: Global, value: &Integer) -> Mem<Integer>
+    ensures { IfOk result (λ copy. copy ≡ value.now) }
+{
+    let (constraints, distinguished_values) = both(
+        copy_constraints(alloc, &value.constraints),
+        copy_optional_list(alloc, &value.distinguished_values),
+    )?;
+    Ok(Integer {
+        constraints,
+        distinguished_values,
+    })
+}
+
+/// A copy of a REAL.
+///
+/// Err: want of memory.
+pub fn copy_real(alloc: Global, value: &Real) -> Mem<Real>
+    ensures { IfOk result (λ copy. copy ≡ value.now) }
+{
+    Ok(Real {
+        constraints: copy_constraints(alloc, &value.constraints)?,
+    })
+}
+
+/// A copy of a GeneralizedTime.
+///
+/// Err: want of memory.
+pub fn copy_generalized_time(alloc: Global, value: &GeneralizedTime) -> Mem<GeneralizedTime>
+    ensures { IfOk result (λ copy. copy ≡ value.now) }
+{
+    Ok(GeneralizedTime {
+        constraints: copy_constraints(alloc, &value.constraints)?,
+    })
+}
+
+/// A copy of a UTCTime.
+///
+/// Err: want of memory.
+pub fn copy_utc_time(alloc: Global, value: &UTCTime) -> Mem<UTCTime>
+    ensures { IfOk result (λ copy. copy ≡ value.now) }
+{
+    Ok(UTCTime {
+        constraints: copy_constraints(alloc, &value.constraints)?,
+    })
+}
+
+/// A copy of a TIME.
+///
+/// Err: want of memory.
+pub fn copy_time(alloc: Global, value: &Time) -> Mem<Time>
+    ensures { IfOk result (λ copy. copy ≡ value.now) }
+{
+    Ok(Time {
+        constraints: copy_constraints(alloc, &value.constraints)?,
+    })
+}
+
+/// A copy of an OCTET STRING.
+///
+/// Err: want of memory.
+pub fn copy_octet_string(alloc: Global, value: &OctetString) -> Mem<OctetString>
+    ensures { IfOk result (λ copy. copy ≡ value.now) }
+{
+    Ok(OctetString {
+        constraints: copy_constraints(alloc, &value.constraints)?,
+    })
+}
+
+/// A copy of a BIT STRING.
+///
+/// Err: want of memory.
+pub fn copy_bit_string(alloc: Global, value: &BitString) -> Mem<BitString>
+    ensures { IfOk result (λ copy. copy ≡ value.now) }
+{
+    let (constraints, distinguished_values) = both(
+        copy_constraints(alloc, &value.constraints),
+        copy_optional_list(alloc, &value.distinguished_values),
+    )?;
+    Ok(BitString {
+        constraints,
+        distinguished_values,
+    })
+}
+
+/// A copy of an OBJECT IDENTIFIER.
+///
+/// Err: want of memory.
+pub fn copy_object_identifier(alloc: Global, value: &ObjectIdentifier) -> Mem<ObjectIdentifier>
+    ensures { IfOk result (λ copy. copy ≡ value.now) }
+{
+    Ok(ObjectIdentifier {
+        constraints: copy_constraints(alloc, &value.constraints)?,
+    })
+}
+
+/// A copy of a character string type.
+///
+/// Err: want of memory.
+pub fn copy_character_string(alloc: Global, value: &CharacterString) -> Mem<CharacterString>
+    ensures { IfOk result (λ copy. copy ≡ value.now) }
+{
+    Ok(CharacterString {
+        constraints: copy_constraints(alloc, &value.constraints)?,
+        ty: value.ty,
+    })
+}
+
+/// A copy of an ENUMERATED.
+///
+/// Err: want of memory.
+pub fn copy_enumerated(alloc: Global, value: &Enumerated) -> Mem<Enumerated>
+    ensures { IfOk result (λ copy. copy ≡ value.now) }
+{
+    let (members, constraints) = both(
+        copy_list(alloc, &value.members),
+        copy_constraints(alloc, &value.constraints),
+    )?;
+    Ok(Enumerated {
+        members,
+        extensible: value.extensible,
+        constraints,
+    })
+}
+
+/// A copy of a type reference.
+///
+/// Err: want of memory.
+pub fn copy_declaration_elsewhere(
+    alloc: Global,
+    value: &DeclarationElsewhere,
+) -> Mem<DeclarationElsewhere>
+    ensures { IfOk result (λ copy. copy ≡ value.now) }
+{
+    let ((parent, identifier), constraints) = both(
+        both(
+            copy_optional_text(alloc, &value.parent),
+            copy_text(alloc, &value.identifier),
+        ),
+        copy_constraints(alloc, &value.constraints),
+    )?;
+    Ok(DeclarationElsewhere {
+        parent,
+        identifier,
         constraints,
     })
 }

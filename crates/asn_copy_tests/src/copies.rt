@@ -1,6 +1,8 @@
 //! Copies of what a text is read as, each call once.
 
-use crate::parts::{ends_of, first_definition, integer_in, range_in, range_of, sequence_in};
+use crate::parts::{
+    element_in, ends_of, first_definition, integer_in, range_in, range_of, sequence_in, set_in,
+};
 use asn_copy::{
     copy_asn1_type, copy_asn1_value, copy_boolean, copy_constraint, copy_declaration_elsewhere,
     copy_element_or_set_operation, copy_element_set, copy_integer, copy_list,
@@ -88,14 +90,15 @@ fn range_of_constraint(alloc: Global, constraint: &Constraint) -> Mem<Option<(i1
 
 fn range_of_set(alloc: Global, set: &ElementSet) -> Mem<Option<(i128, i128)>> {
     let copy = copy_element_set(alloc, set)?;
-    match &copy.set {
-        ElementOrSetOperation::Element(element) => Ok(ends_of(element)),
-    }
+    Ok(element_in(&copy.set).and_then(ends_of))
 }
 
 fn range_of_element(alloc: Global, element: &ElementOrSetOperation) -> Mem<Option<(i128, i128)>> {
-    let ElementOrSetOperation::Element(copy) = copy_element_or_set_operation(alloc, element)?;
-    Ok(ends_of(&copy_subtype_element(alloc, &copy)?))
+    let copy = copy_element_or_set_operation(alloc, element)?;
+    match element_in(&copy) {
+        Some(element) => Ok(ends_of(&copy_subtype_element(alloc, element)?)),
+        None => Ok(None),
+    }
 }
 
 #[test]
@@ -106,7 +109,7 @@ fn of_constraints(rt: HostRuntime) -> Result<(), Fail> {
     let integer = integer_in(&definition.ty).ok_or("an integer")?;
     let constraint = integer.constraints.get(0).ok_or("a constraint")?;
     assert_eq!(rt; range_of_constraint(alloc, constraint)?, Some((1, 128)));
-    let Constraint::SubtypeConstraint(set) = constraint;
+    let set = set_in(constraint).ok_or("a set")?;
     assert_eq!(rt; range_of_set(alloc, set)?, Some((1, 128)));
     assert_eq!(rt; range_of_element(alloc, &set.set)?, Some((1, 128)));
     Ok(())

@@ -5,8 +5,8 @@ ghost use Rattle.asn_tree.specs.declared.values.ASN1Value.TheVariants as Value;
 ghost use Rattle.std.specs.Prelude.{◌≡◌, ℤ, Some, false};
 
 use asn_tree::{
-    ASN1Type, ASN1Value, Constraint, ElementOrSetOperation, Integer, Reading, SequenceOrSet,
-    SubtypeElement, ToplevelDefinition, ToplevelTypeDefinition,
+    ASN1Type, ASN1Value, Constraint, ElementOrSetOperation, ElementSet, Integer, Reading,
+    SequenceOrSet, SubtypeElement, ToplevelDefinition, ToplevelTypeDefinition,
 };
 
 /// The first definition of the first module.
@@ -14,6 +14,7 @@ pub fn first_definition(reading: &Reading) -> Option<&ToplevelTypeDefinition> {
     let (_, definitions) = reading.get(0)?;
     match definitions.get(0)? {
         ToplevelDefinition::TypeDef(definition) => Some(definition),
+        _ => None,
     }
 }
 
@@ -49,13 +50,25 @@ pub fn ends_of(element: &SubtypeElement) -> Option<(i128, i128)>
     }
 }
 
+/// The set that a subtype constraint is.
+pub fn set_in(constraint: &Constraint) -> Option<&ElementSet> {
+    match constraint {
+        Constraint::SubtypeConstraint(set) => Some(set),
+        _ => None,
+    }
+}
+
+/// The one element of a set.
+pub fn element_in(set: &ElementOrSetOperation) -> Option<&SubtypeElement> {
+    match set {
+        ElementOrSetOperation::Element(element) => Some(element),
+        ElementOrSetOperation::SetOperation(_) => None,
+    }
+}
+
 /// The ends of the range that a constraint is.
 pub fn range_of(constraint: &Constraint) -> Option<(i128, i128)> {
-    match constraint {
-        Constraint::SubtypeConstraint(set) => match &set.set {
-            ElementOrSetOperation::Element(element) => ends_of(element),
-        },
-    }
+    ends_of(element_in(&set_in(constraint)?.set)?)
 }
 
 /// The ends of the range that is the one constraint of an INTEGER.

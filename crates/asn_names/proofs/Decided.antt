@@ -4,30 +4,26 @@ use Rattle.std.specs.Prelude.{◌||◌, is_none, if◌then◌else◌, ℤ}
 use Rattle.std.specs.List.{All, Contains, list_any}
 use Rattle.std.specs.Str.{bytes_eq}
 use Rattle.std.proofs.lemmas.List.Elements.{All-head, All-tail, Contains-append_left, Contains-append_right}
-use Rattle.asn_tree.specs.declared.constraints.Constraint.{Constraint}
-use Rattle.asn_tree.specs.declared.constraints.Constraint.TheVariants.{SubtypeConstraint}
-use Rattle.asn_tree.specs.declared.constraints.ElementOrSetOperation.{ElementOrSetOperation}
-use Rattle.asn_tree.specs.declared.constraints.ElementOrSetOperation.TheVariants.{Element}
-use Rattle.asn_tree.specs.declared.constraints.SubtypeElement.{SubtypeElement}
-use Rattle.asn_tree.specs.declared.constraints.SubtypeElement.TheVariants.{ValueRange}
+use Rattle.asn_tree.specs.declared.constraints.Constraint.{Constraint, Constraint-F, out-Constraint}
+use Rattle.asn_tree.specs.declared.constraints.ElementOrSetOperation.{ElementOrSetOperation, ElementOrSetOperation-F, out-ElementOrSetOperation}
+use Rattle.asn_tree.specs.declared.constraints.SubtypeElement.{SubtypeElement, SubtypeElement-F, out-SubtypeElement}
 use Rattle.asn_tree.specs.declared.definitions.ToplevelDefinition.{ToplevelDefinition}
 use Rattle.asn_tree.specs.declared.types.ASN1Type.{ASN1Type, ASN1Type-F, out-ASN1Type}
 use Rattle.asn_tree.specs.declared.types.SequenceOrSet.{out-SequenceOrSet}
 use Rattle.asn_tree.specs.declared.types.SequenceOrSetMember.{SequenceOrSetMember, out-SequenceOrSetMember}
-use Rattle.asn_tree.specs.declared.values.ASN1Value.{ASN1Value}
-use Rattle.asn_tree.specs.declared.values.ASN1Value.TheVariants.{Integer as WrittenNumber}
+use Rattle.asn_tree.specs.declared.values.ASN1Value.{ASN1Value, out-ASN1Value}
 use Rattle.asn_names.specs.declared.faults.Fault.TheVariants.{MissingDependency}
 use Rattle.asn_names.specs.Answers.{Answer, Yes, No, Unknown, both, answer_of, IsKnown}
-use Rattle.asn_names.specs.Definitions.{Definitions, see, or_else, is_named, type_of}
+use Rattle.asn_names.specs.Definitions.{Definitions, see, or_else, is_named, own_type, type_of}
 use Rattle.asn_names.specs.Faults.{IsClean, IsSpotless, is_missing}
-use Rattle.asn_names.specs.Judge.{OfType, OfConstraint, OfOperation, OfElement, constrained, is_truth_value, is_whole_number, is_member, known_fields, is_addition, may_be_absent, member_at, members_at, fields_at, defined_place, place_at, end_at, range_at, type_at, step, judge}
-use Rattle.asn_names.specs.Laws.{is_head, AreHeads}
-use Rattle.asn_names.specs.Layers.{TypeLayer, StructLayer, MemberLayer}
+use Rattle.asn_names.specs.Judge.{OfType, OfConstraint, OfOperation, OfElement, constrained, is_truth_value, is_whole_number, is_member, known_fields, is_addition, may_be_absent, member_at, members_at, fields_at, defined_place, place_at, end_at, compared, number_of, constraint_at, operation_at, element_at, range_at, type_at, step, judge}
+use Rattle.asn_names.specs.Laws.{is_head, is_head_at, AreHeads}
+use Rattle.asn_names.specs.Layers.{TypeLayer, StructLayer, MemberLayer, ConstraintLayer, SetLayer, ElementLayer}
 use Rattle.asn_names.specs.Meaning.{IsDecided}
 use Rattle.asn_names.specs.Occurrences.{names_in, members_names, names_of, Reaches, occurs, goes_on}
 use Rattle.asn_names.specs.Scopes.{Scope, Empty}
 use Rattle.asn_names.specs.ValueTrees.{ValueTree, TruthValue, WholeNumber, Struct, Fields, no_field, field, field_named}
-use Rattle.asn_names.proofs.Occurrences.{level_names, names_is}
+use Rattle.asn_names.proofs.Occurrences.{level_names, names_are, names_is}
 
 -- answers
 both_known : (a b : Answer) → IsKnown a → IsKnown b → IsKnown (both a b)
@@ -69,7 +65,11 @@ any_false p (y ∷ ys) x (suc k, lt, e) h = any_false p ys x (k, omega arith, e)
 module _ (defs : Definitions) where
   end_known : (f : ℤ → Bool) (v : Option ASN1Value) → IsKnown (end_at f v)
   end_known f None = tt
-  end_known f (Some (WrittenNumber i)) = answer_known (f i)
+  end_known f (Some v) = go (number_of (out-ASN1Value v))
+    where
+      go : (o : Option ℤ) → IsKnown (compared f o)
+      go None = tt
+      go (Some i) = answer_known (f i)
 
   range_known : (low high : Option ASN1Value) (low_open high_open : Bool) (t : ValueTree) → IsKnown (range_at low high low_open high_open t)
   range_known low high low_open high_open (WholeNumber i) = both_known _ _ (end_known _ low) (end_known _ high)
@@ -77,15 +77,27 @@ module _ (defs : Definitions) where
 
   element_known : (n : ℕ) (scope : Scope) (x : SubtypeElement) (t : ValueTree) → IsKnown (judge defs (suc n) (OfElement scope x t))
   unfolding judge step
-  element_known n scope (ValueRange low high low_open high_open extensible) t = range_known low high low_open high_open t
+  element_known n scope x t = go (out-SubtypeElement x)
+    where
+      go : (l : ElementLayer) → IsKnown (element_at t l)
+      go (SubtypeElement-F.ValueRange low high low_open high_open extensible) = range_known low high low_open high_open t
+      go _ = tt
 
   operation_known : (n : ℕ) (scope : Scope) (o : ElementOrSetOperation) (t : ValueTree) → IsKnown (judge defs (suc (suc n)) (OfOperation scope o t))
   unfolding judge step
-  operation_known n scope (Element x) t = element_known n scope x t
+  operation_known n scope o t = go (out-ElementOrSetOperation o)
+    where
+      go : (l : SetLayer) → IsKnown (operation_at (judge defs (suc n)) scope t l)
+      go (ElementOrSetOperation-F.Element x) = element_known n scope x t
+      go _ = tt
 
   constraint_known : (n : ℕ) (scope : Scope) (c : Constraint) (t : ValueTree) → IsKnown (judge defs (suc (suc (suc n))) (OfConstraint scope c t))
   unfolding judge step
-  constraint_known n scope (SubtypeConstraint s) t = operation_known n scope s.set t
+  constraint_known n scope c t = go (out-Constraint c)
+    where
+      go : (l : ConstraintLayer) → IsKnown (constraint_at (judge defs (suc (suc n))) scope t l)
+      go (Constraint-F.SubtypeConstraint s) = operation_known n scope s.set t
+      go _ = tt
 
   each_known : (n : ℕ) (scope : Scope) (cs : List Constraint) (t : ValueTree) → IsKnown (constrained (judge defs (suc (suc (suc n)))) scope cs t)
   each_known n scope [] t = tt
@@ -115,23 +127,31 @@ module _ (defs : Definitions) where
 
 -- no name is missing in what a clean definition reaches
 module _ (defs : Definitions) (heads : AreHeads defs) (d : ToplevelDefinition) (clean : IsClean defs d) where
-  is_seen : (o : Option ToplevelDefinition) → is_none o ≡ false → (e : ToplevelDefinition) × (o ≡ Some e)
+  -- a name's definition with its type
+  abbrev Typed : Option ToplevelDefinition → Type 0
+  Typed o = (e : ToplevelDefinition) × (o ≡ Some e) × (ty : ASN1Type) × (type_of e ≡ Some ty)
+
+  is_seen : (o : Option ToplevelDefinition) → is_none (own_type o) ≡ false → Typed o
   is_seen None h = absurd cc
-  is_seen (Some e) h = (e, refl)
+  is_seen (Some e) h = let typed = is_typed (type_of e) h in (e, refl, typed.0, typed.1)
+    where
+      is_typed : (o : Option ASN1Type) → is_none o ≡ false → (ty : ASN1Type) × (o ≡ Some ty)
+      is_typed None h = absurd cc
+      is_typed (Some ty) h = (ty, refl)
 
   none_missing : (b : Bool) → (if b then Some MissingDependency else None) ≡ None → b ≡ false
   none_missing true h = absurd cc
   none_missing false h = refl
 
-  spotless_seen : (e : ToplevelDefinition) → IsSpotless defs e → (x : List ℕ) → Contains (names_of e) x → (y : ToplevelDefinition) × (see defs x ≡ Some y)
+  spotless_seen : (e : ToplevelDefinition) → IsSpotless defs e → (x : List ℕ) → Contains (names_of e) x → Typed (see defs x)
   spotless_seen e spotless x c = is_seen (see defs x) (any_false (is_missing defs) (names_of e) x c (none_missing _ spotless.faultless))
 
-  reached_seen : (x : List ℕ) → Reaches defs d x → (y : ToplevelDefinition) × (see defs x ≡ Some y)
+  reached_seen : (x : List ℕ) → Reaches defs d x → Typed (see defs x)
   reached_seen x (occurs c) = spotless_seen d clean.itself x c
   reached_seen x (goes_on {x = z} {e = e} r s c) = spotless_seen e (clean.reached z e r s) x c
 
   abbrev IsHead : ToplevelDefinition → Type 0
-  IsHead e = is_head (out-ASN1Type (type_of e)) ≡ true
+  IsHead e = is_head_at (type_of e) ≡ true
 
   seen_head : (ds : Definitions) → All IsHead ds → (x : List ℕ) (e : ToplevelDefinition) → see ds x ≡ Some e → IsHead e
   seen_head [] all x e h = absurd cc
@@ -177,10 +197,11 @@ module _ (defs : Definitions) (heads : AreHeads defs) (d : ToplevelDefinition) (
   struct_decided _ below x within = always_decided defs No tt
 
   head_decided : (t : ValueTree) → Below t → (l : TypeLayer) → Within (level_names l) → is_head l ≡ true → Decided defs (LayerAnswer l t)
-  head_decided t below (ASN1Type-F.Boolean x) within h = both_decided defs _ _ (always_decided defs _ (truth_known t)) (constraints_decided defs x.constraints t)
-  head_decided t below (ASN1Type-F.Integer x) within h = both_decided defs _ _ (always_decided defs _ (whole_known t)) (constraints_decided defs x.constraints t)
+  head_decided t below (ASN1Type-F.ASN1Type::Boolean x) within h = both_decided defs _ _ (always_decided defs _ (truth_known t)) (constraints_decided defs x.constraints t)
+  head_decided t below (ASN1Type-F.ASN1Type::Integer x) within h = both_decided defs _ _ (always_decided defs _ (whole_known t)) (constraints_decided defs x.constraints t)
   head_decided t below (ASN1Type-F.Sequence s) within h = both_decided defs _ _ (struct_decided t below (out-SequenceOrSet s) within) (constraints_decided defs (out-SequenceOrSet s).constraints t)
   head_decided t below (ASN1Type-F.ElsewhereDeclaredType x) within h = absurd cc
+  head_decided t below _ within h = always_decided defs No tt
 
   stepped : (ty : ASN1Type) (t : ValueTree) → Decided defs (LayerAnswer (out-ASN1Type ty) t) → Decided defs (TypeAnswer defs ty t)
   unfolding judge step
@@ -195,14 +216,14 @@ module _ (defs : Definitions) (heads : AreHeads defs) (d : ToplevelDefinition) (
       let r : Reaches defs d x.identifier = within x.identifier (0, omega arith, refl) in
       let seen = reached_seen x.identifier r in
       let e = seen.0 in
-      let inside : Within (level_names (out-ASN1Type (type_of e))) = λ n c. goes_on r seen.1 (subst (λ ns. Contains ns n) (sym (names_is (type_of e))) c) in
-      let p = stepped (type_of e) t (head_decided t below (out-ASN1Type (type_of e)) inside (seen_head defs heads x.identifier e seen.1)) in
+      let ty = seen.2 in
+      let inside : Within (level_names (out-ASN1Type ty)) = λ n c. goes_on r seen.1 (subst (λ ns. Contains ns n) (sym (names_are e ty seen.3 ∙ names_is ty)) c) in
+      let head : is_head (out-ASN1Type ty) ≡ true = sym (ap is_head_at seen.3) ∙ seen_head defs heads x.identifier e seen.1 in
+      let p = stepped ty t (head_decided t below (out-ASN1Type ty) inside head) in
       both_decided defs _ _
-      (subst (λ o. Decided defs (λ k. place_at (judge defs k) (defined_place o) t)) (sym seen.1) p)
+      (subst (λ o. Decided defs (λ k. place_at (judge defs k) (defined_place o) t)) (sym (ap own_type seen.1 ∙ seen.3)) p)
       (constraints_decided defs x.constraints t)
-  layer_decided t below (ASN1Type-F.Boolean x) within = head_decided t below (ASN1Type-F.Boolean x) within refl
-  layer_decided t below (ASN1Type-F.Integer x) within = head_decided t below (ASN1Type-F.Integer x) within refl
-  layer_decided t below (ASN1Type-F.Sequence x) within = head_decided t below (ASN1Type-F.Sequence x) within refl
+  layer_decided t below l within = head_decided t below l within refl
 
   type_decided : (t : ValueTree) → Below t → TypeDecided t
   type_decided t below ty within = stepped ty t (layer_decided t below (out-ASN1Type ty) (λ n c. within n (subst (λ ns. Contains ns n) (sym (names_is ty)) c)))
@@ -220,7 +241,7 @@ module _ (defs : Definitions) (heads : AreHeads defs) (d : ToplevelDefinition) (
     fields_decided no_field name u h = absurd cc
     fields_decided (field f t fs) name u h = chosen (bytes_eq f name) t u (field_named fs name) (tree_decided t) (fields_decided fs name u) h
 
-  pub every_decided : (t : ValueTree) → IsDecided defs (type_of d) t
-  every_decided t =
-      let p = tree_decided t (type_of d) (λ n c. occurs c) in
+  pub every_decided : (ty : ASN1Type) → type_of d ≡ Some ty → (t : ValueTree) → IsDecided defs ty t
+  every_decided ty is t =
+      let p = tree_decided t ty (λ n c. occurs (subst (λ ns. Contains ns n) (sym (names_are d ty is)) c)) in
       (p.0, p.1 p.0 (omega arith))

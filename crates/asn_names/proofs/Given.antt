@@ -1,11 +1,11 @@
 -- What a name stands for in a reading is what it stands for among the given definitions, as given.
-use Rattle.std.proofs.Common.{◌≡◌, ℕ, ◌+◌, List, [], ◌∷◌, ◌++◌, true, false, Option, Some, None, refl, sym, ap, ◌∙◌, subst}
+use Rattle.std.proofs.Common.{◌≡◌, ℕ, ◌+◌, List, [], ◌∷◌, ◌++◌, true, false, Bool, Option, Some, None, refl, sym, ap, ◌∙◌, subst}
 use Rattle.std.specs.Prelude.{if◌then◌else◌}
 use Rattle.std.specs.Str.{bytes_eq}
 use Rattle.asn_tree.specs.declared.definitions.ToplevelDefinition.{ToplevelDefinition}
-use Rattle.asn_tree.specs.declared.definitions.ToplevelDefinition.TheVariants.{TypeDef}
+use Rattle.asn_tree.specs.declared.definitions.ToplevelDefinition.TheVariants.{TypeDef, Value, Information}
 use Rattle.asn_tree.specs.declared.headers.TaggingEnvironment.{TaggingEnvironment}
-use Rattle.asn_names.specs.Definitions.{Definitions, Module, definitions_of, is_named, or_else, see}
+use Rattle.asn_names.specs.Definitions.{Definitions, Module, definitions_of, name_of, is_named, or_else, see}
 use Rattle.asn_names.specs.Given.{IsGiven}
 use Rattle.asn_names.specs.Kept.{given, given_from, given_since, given_definitions}
 
@@ -31,11 +31,19 @@ or_else_given None (Some y) c d p q = absurd p
 
 here_given : (e : TaggingEnvironment) (home item : ℕ) (name : List ℕ) (d : ToplevelDefinition) →
     IsGiven (if is_named name d then Some d else None) (if is_named name (given e home item d) then Some (given e home item d) else None)
-here_given e home item name (TypeDef d) =
-    elim (bytes_eq d.name name) as (λ b. IsGiven (if b then Some (TypeDef d) else None) (if b then Some (given e home item (TypeDef d)) else None)) [
-      | true ↦ (e, home, item, refl)
-      | false ↦ tt
-    ]
+here_given e home item name d = subst (λ n. IsGiven (here d d) (if bytes_eq n name then Some (given e home item d) else None)) (sym (name_given d)) (go (is_named name d))
+  where
+    here : ToplevelDefinition → ToplevelDefinition → Option ToplevelDefinition
+    here d x = if is_named name d then Some x else None
+
+    name_given : (d : ToplevelDefinition) → name_of (given e home item d) ≡ name_of d
+    name_given (TypeDef d) = refl
+    name_given (Value d) = refl
+    name_given (Information d) = refl
+
+    go : (b : Bool) → IsGiven (if b then Some d else None) (if b then Some (given e home item d) else None)
+    go true = (e, home, item, refl)
+    go false = tt
 
 module_given : (e : TaggingEnvironment) (home item : ℕ) (name : List ℕ) (ds : Definitions) → IsGiven (see ds name) (see (given_from e home item ds) name)
 module_given e home item name [] = tt

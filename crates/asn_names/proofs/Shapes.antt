@@ -3,14 +3,13 @@ use Rattle.std.proofs.Common.{◌≡◌, ℕ, zero, suc, List, [], ◌∷◌, Bo
 use Rattle.asn_tree.specs.declared.types.ASN1Type.{ASN1Type, ASN1Type-F, out-ASN1Type}
 use Rattle.asn_tree.specs.declared.types.SequenceOrSet.{out-SequenceOrSet}
 use Rattle.asn_tree.specs.declared.types.SequenceOrSetMember.{SequenceOrSetMember, out-SequenceOrSetMember}
-use Rattle.asn_tree.specs.declared.values.ASN1Value.{ASN1Value}
-use Rattle.asn_tree.specs.declared.values.ASN1Value.TheVariants.{Integer as WrittenNumber}
+use Rattle.asn_tree.specs.declared.values.ASN1Value.{ASN1Value, ASN1Value-F, out-ASN1Value}
 use Rattle.asn_names.specs.Answers.{Answer, Yes, No, Unknown, both}
 use Rattle.asn_names.specs.Definitions.{Definitions}
-use Rattle.asn_names.specs.Denotes.{Denotation, Denoted, denoted_under, denoted_at, denotes}
+use Rattle.asn_names.specs.Denotes.{Denoted, denoted_under, number_denoted, denoted_at}
 use Rattle.asn_names.specs.Heads.{head, head_at, led_on}
-use Rattle.asn_names.specs.Judge.{Judging, OfType, judge, step, is_truth_value, is_whole_number, constrained, known_fields, is_addition, member_at, members_at, fields_at, place_of, place_at, type_at}
-use Rattle.asn_names.specs.Layers.{TypeLayer, StructLayer, MemberLayer}
+use Rattle.asn_names.specs.Judge.{Judging, OfType, judge, step, is_truth_value, is_whole_number, known_fields, is_addition, member_at, members_at, fields_at, place_of, place_at, type_at}
+use Rattle.asn_names.specs.Layers.{TypeLayer, StructLayer, MemberLayer, ValueLayer}
 use Rattle.asn_names.specs.Scopes.{Scope, Place}
 use Rattle.asn_names.specs.Shape.{Fitting, member_fits, members_fit, struct_fits, led_fits, type_fits, shape}
 use Rattle.asn_names.specs.ValueTrees.{ValueTree, WholeNumber, Struct, Fields, field_named}
@@ -59,10 +58,11 @@ module _ (defs : Definitions) (J : Judging) (F : Fitting) (fits : Fits J F) wher
   led (Some p) t e = fits p.scope p.ty t e
 
   layer : (scope : Scope) (t : ValueTree) (x : TypeLayer) → type_at defs J scope t x ≡ Yes → type_fits defs F scope t x ≡ Yes
-  layer scope t (ASN1Type-F.Boolean x) e = both_first (is_truth_value t) _ e
-  layer scope t (ASN1Type-F.Integer x) e = both_first (is_whole_number t) _ e
+  layer scope t (ASN1Type-F.ASN1Type::Boolean x) e = both_first (is_truth_value t) _ e
+  layer scope t (ASN1Type-F.ASN1Type::Integer x) e = both_first (is_whole_number t) _ e
   layer scope t (ASN1Type-F.Sequence x) e = struct scope t (out-SequenceOrSet x) (both_first (fields_at J scope t (out-SequenceOrSet x)) _ e)
   layer scope t (ASN1Type-F.ElsewhereDeclaredType x) e = led (place_of defs scope x) t (both_first (place_at J (place_of defs scope x) t) _ e)
+  layer scope t _ e = absurd cc
 
 pub accepted_fits : (defs : Definitions) (n : ℕ) → Fits (judge defs n) (shape defs n)
 unfolding judge step shape
@@ -70,26 +70,26 @@ accepted_fits defs zero scope ty t e = absurd cc
 accepted_fits defs (suc n) scope ty t e = layer defs (judge defs n) (shape defs n) (accepted_fits defs n) scope t (out-ASN1Type ty) e
 
 -- a value that denotes under a head's layer denotes what fits it
-under : (defs : Definitions) (F : Fitting) (scope : Scope) (v : ASN1Value) (x : TypeLayer) (t : ValueTree) → denoted_under v x ≡ Denoted t → type_fits defs F scope t x ≡ Yes
-under defs F scope (WrittenNumber i) (ASN1Type-F.Boolean x) t e = absurd cc
-under defs F scope (WrittenNumber i) (ASN1Type-F.Integer x) t e = let same : WholeNumber i ≡ t = cc in ap is_whole_number (sym same)
-under defs F scope (WrittenNumber i) (ASN1Type-F.Sequence x) t e = absurd cc
-under defs F scope (WrittenNumber i) (ASN1Type-F.ElsewhereDeclaredType x) t e = absurd cc
+under : (defs : Definitions) (F : Fitting) (scope : Scope) (v : ValueLayer) (x : TypeLayer) (t : ValueTree) → denoted_under v x ≡ Denoted t → type_fits defs F scope t x ≡ Yes
+under defs F scope v (ASN1Type-F.ASN1Type::Integer x) t e = number v e
+  where
+    number : (v : ValueLayer) → number_denoted v ≡ Denoted t → is_whole_number t ≡ Yes
+    number (ASN1Value-F.ASN1Value::Integer i) e = let same : WholeNumber i ≡ t = cc in ap is_whole_number (sym same)
+    number _ e = absurd cc
+under defs F scope v _ t e = absurd cc
 
 pub denoted_fits : (defs : Definitions) (n : ℕ) (v : ASN1Value) (p : Place) (t : ValueTree) → denoted_at v (head defs n p) ≡ Denoted t → shape defs n p t ≡ Yes
 unfolding head shape
 denoted_fits defs zero v p t e = absurd cc
 denoted_fits defs (suc n) v p t e = go (λ q. denoted_fits defs n v q t) (out-ASN1Type p.ty) refl e
   where
-    here : (x : TypeLayer) → out-ASN1Type p.ty ≡ x → denoted_under v (out-ASN1Type p.ty) ≡ Denoted t → type_fits defs (shape defs n) p.scope t x ≡ Yes
-    here x is h = subst (λ y. type_fits defs (shape defs n) p.scope t y ≡ Yes) is (under defs (shape defs n) p.scope v (out-ASN1Type p.ty) t h)
+    here : (x : TypeLayer) → out-ASN1Type p.ty ≡ x → denoted_under (out-ASN1Value v) (out-ASN1Type p.ty) ≡ Denoted t → type_fits defs (shape defs n) p.scope t x ≡ Yes
+    here x is h = subst (λ y. type_fits defs (shape defs n) p.scope t y ≡ Yes) is (under defs (shape defs n) p.scope (out-ASN1Value v) (out-ASN1Type p.ty) t h)
 
     go : ((q : Place) → denoted_at v (head defs n q) ≡ Denoted t → shape defs n q t ≡ Yes) → (x : TypeLayer) → out-ASN1Type p.ty ≡ x → denoted_at v (head_at defs (head defs n) p x) ≡ Denoted t → type_fits defs (shape defs n) p.scope t x ≡ Yes
-    go later (ASN1Type-F.Boolean x) is h = here (ASN1Type-F.Boolean x) is h
-    go later (ASN1Type-F.Integer x) is h = here (ASN1Type-F.Integer x) is h
-    go later (ASN1Type-F.Sequence x) is h = here (ASN1Type-F.Sequence x) is h
     go later (ASN1Type-F.ElsewhereDeclaredType x) is h = follow (place_of defs p.scope x) h
       where
         follow : (o : Option Place) → denoted_at v (led_on (head defs n) o) ≡ Denoted t → led_fits (shape defs n) o t ≡ Yes
         follow None h = absurd cc
         follow (Some q) h = later q h
+    go later x is h = here x is h

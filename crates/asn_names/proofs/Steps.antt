@@ -1,16 +1,15 @@
 -- More steps never change a yes or a no.
 use Rattle.std.proofs.Common.{◌≡◌, ℕ, zero, suc, ◌+◌, List, [], ◌∷◌, Option, Some, None, refl, sym, subst, ap, ◌∙◌, arith}
-use Rattle.asn_tree.specs.declared.constraints.Constraint.{Constraint}
-use Rattle.asn_tree.specs.declared.constraints.Constraint.TheVariants.{SubtypeConstraint}
-use Rattle.asn_tree.specs.declared.constraints.ElementOrSetOperation.{ElementOrSetOperation}
-use Rattle.asn_tree.specs.declared.constraints.ElementOrSetOperation.TheVariants.{Element}
+use Rattle.asn_tree.specs.declared.constraints.Constraint.{Constraint, Constraint-F, out-Constraint}
+use Rattle.asn_tree.specs.declared.constraints.ElementOrSetOperation.{ElementOrSetOperation-F, out-ElementOrSetOperation}
+use Rattle.asn_tree.specs.declared.constraints.SubtypeElement.{out-SubtypeElement}
 use Rattle.asn_tree.specs.declared.types.ASN1Type.{ASN1Type, ASN1Type-F, out-ASN1Type}
 use Rattle.asn_tree.specs.declared.types.SequenceOrSet.{out-SequenceOrSet}
 use Rattle.asn_tree.specs.declared.types.SequenceOrSetMember.{SequenceOrSetMember, out-SequenceOrSetMember}
 use Rattle.std.specs.Prelude.{Bool}
 use Rattle.asn_names.specs.Answers.{Answer, Yes, No, Unknown, both, each, Refines, IsKnown}
 use Rattle.asn_names.specs.Definitions.{Definitions}
-use Rattle.asn_names.specs.Layers.{TypeLayer, StructLayer, MemberLayer}
+use Rattle.asn_names.specs.Layers.{TypeLayer, StructLayer, MemberLayer, ConstraintLayer, SetLayer}
 use Rattle.asn_names.specs.Judge.{Query, OfType, OfConstraint, OfOperation, OfElement, Judging, constrained, known_fields, is_addition, member_at, members_at, fields_at, place_of, place_at, type_at, operation_at, constraint_at, element_at, step, judge}
 use Rattle.asn_names.specs.Meaning.{Accepts, Rejects}
 use Rattle.asn_names.specs.Scopes.{Scope, Place}
@@ -66,23 +65,26 @@ module _ (J K : Judging) (m : More J K) where
   place_more (Some p) t = m (OfType p.scope p.ty t)
 
   type_more : (defs : Definitions) (scope : Scope) (t : ValueTree) (l : TypeLayer) → Refines (type_at defs J scope t l) (type_at defs K scope t l)
-  type_more defs scope t (ASN1Type-F.Boolean x) = both_refines _ _ _ _ (same_refines _) (constrained_more scope x.constraints t)
-  type_more defs scope t (ASN1Type-F.Integer x) = both_refines _ _ _ _ (same_refines _) (constrained_more scope x.constraints t)
+  type_more defs scope t (ASN1Type-F.ASN1Type::Boolean x) = both_refines _ _ _ _ (same_refines _) (constrained_more scope x.constraints t)
+  type_more defs scope t (ASN1Type-F.ASN1Type::Integer x) = both_refines _ _ _ _ (same_refines _) (constrained_more scope x.constraints t)
   type_more defs scope t (ASN1Type-F.Sequence x) = both_refines _ _ _ _ (fields_more scope t (out-SequenceOrSet x)) (constrained_more scope (out-SequenceOrSet x).constraints t)
   type_more defs scope t (ASN1Type-F.ElsewhereDeclaredType x) = both_refines _ _ _ _ (place_more (place_of defs scope x) t) (constrained_more scope x.constraints t)
+  type_more defs scope t _ = refl
 
-  constraint_more : (scope : Scope) (t : ValueTree) (c : Constraint) → Refines (constraint_at J scope t c) (constraint_at K scope t c)
-  constraint_more scope t (SubtypeConstraint s) = m (OfOperation scope s.set t)
+  constraint_more : (scope : Scope) (t : ValueTree) (c : ConstraintLayer) → Refines (constraint_at J scope t c) (constraint_at K scope t c)
+  constraint_more scope t (Constraint-F.SubtypeConstraint s) = m (OfOperation scope s.set t)
+  constraint_more scope t _ = refl
 
-  operation_more : (scope : Scope) (t : ValueTree) (o : ElementOrSetOperation) → Refines (operation_at J scope t o) (operation_at K scope t o)
-  operation_more scope t (Element e) = m (OfElement scope e t)
+  operation_more : (scope : Scope) (t : ValueTree) (o : SetLayer) → Refines (operation_at J scope t o) (operation_at K scope t o)
+  operation_more scope t (ElementOrSetOperation-F.Element e) = m (OfElement scope e t)
+  operation_more scope t _ = refl
 
   step_more : (defs : Definitions) → More (step defs J) (step defs K)
   unfolding step
   step_more defs (OfType scope ty t) = type_more defs scope t (out-ASN1Type ty)
-  step_more defs (OfConstraint scope c t) = constraint_more scope t c
-  step_more defs (OfOperation scope o t) = operation_more scope t o
-  step_more defs (OfElement scope e t) = same_refines (element_at K scope t e)
+  step_more defs (OfConstraint scope c t) = constraint_more scope t (out-Constraint c)
+  step_more defs (OfOperation scope o t) = operation_more scope t (out-ElementOrSetOperation o)
+  step_more defs (OfElement scope e t) = same_refines (element_at t (out-SubtypeElement e))
 
 judge_more : (defs : Definitions) (n : ℕ) → More (judge defs n) (judge defs (suc n))
 unfolding judge

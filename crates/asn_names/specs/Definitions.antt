@@ -6,7 +6,7 @@ use Rattle.std.specs.Ordering.{nat_cmp}
 use Rattle.std.specs.Str.{bytes_eq}
 pub use Rattle.asn_tree.specs.Calls.{name_of}
 use Rattle.asn_tree.specs.declared.definitions.ToplevelDefinition.{ToplevelDefinition}
-use Rattle.asn_tree.specs.declared.definitions.ToplevelDefinition.TheVariants.{TypeDef}
+use Rattle.asn_tree.specs.declared.definitions.ToplevelDefinition.TheVariants.{TypeDef, Value, Information}
 use Rattle.asn_tree.specs.declared.headers.ModuleReference.{ModuleReference}
 use Rattle.asn_tree.specs.declared.types.ASN1Type.{ASN1Type}
 
@@ -22,9 +22,11 @@ abbrev pub definitions_of : List Module → Definitions
 definitions_of [] = []
 definitions_of (m ∷ ms) = m.1 ++ definitions_of ms
 
--- the type of a type definition
-abbrev pub type_of : ToplevelDefinition → ASN1Type
-type_of (TypeDef d) = d.ty
+-- the type of a type definition; other definitions have none
+abbrev pub type_of : ToplevelDefinition → Option ASN1Type
+type_of (TypeDef d) = Some d.ty
+type_of (Value d) = None
+type_of (Information d) = None
 
 -- whether the definition has the name
 abbrev pub is_named : List ℕ → ToplevelDefinition → Bool
@@ -39,6 +41,14 @@ or_else None other = other
 abbrev pub see : Definitions → List ℕ → Option ToplevelDefinition
 see [] name = None
 see (d ∷ ds) name = or_else (see ds name) (if is_named name d then Some d else None)
+
+abbrev pub own_type : Option ToplevelDefinition → Option ASN1Type
+own_type None = None
+own_type (Some d) = type_of d
+
+-- The type that a name stands for, where its definition is that of a type.
+abbrev pub type_named : Definitions → List ℕ → Option ASN1Type
+type_named defs name = own_type (see defs name)
 
 -- Several definitions have the name.
 abbrev pub is_duplicate : Definitions → List ℕ → Bool

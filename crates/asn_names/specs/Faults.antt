@@ -4,14 +4,14 @@ use Rattle.std.specs.List.{list_any}
 use Rattle.asn_tree.specs.declared.definitions.ToplevelDefinition.{ToplevelDefinition}
 use Rattle.asn_names.specs.declared.faults.Fault.{Fault}
 use Rattle.asn_names.specs.declared.faults.Fault.TheVariants.{MissingDependency}
-use Rattle.asn_names.specs.Definitions.{Definitions, see, name_of, is_duplicate}
+use Rattle.asn_names.specs.Definitions.{Definitions, see, type_named, name_of, is_duplicate}
 use Rattle.asn_names.specs.Occurrences.{names_of, Reaches}
 
--- whether no definition has the name
+-- whether the name stands for no type
 abbrev pub is_missing : Definitions → List ℕ → Bool
-is_missing defs name = is_none (see defs name)
+is_missing defs name = is_none (type_named defs name)
 
--- The first fault that stands in a definition: a name that occurs in it has no definition (X.680 14.1).
+-- The first fault that stands in a definition: a name that occurs in it has no definition of a type (X.680 14.1).
 abbrev pub fault_of : Definitions → ToplevelDefinition → Option Fault
 fault_of defs d = if list_any (is_missing defs) (names_of d) then Some MissingDependency else None
 

@@ -12,10 +12,8 @@ led_on follow None = None
 led_on follow (Some p) = follow p
 
 abbrev pub head_at : Definitions → (Place → Option Place) → Place → TypeLayer → Option Place
-head_at defs follow p (ASN1Type-F.Boolean x) = Some p
-head_at defs follow p (ASN1Type-F.Integer x) = Some p
-head_at defs follow p (ASN1Type-F.Sequence x) = Some p
 head_at defs follow p (ASN1Type-F.ElsewhereDeclaredType x) = led_on follow (place_of defs p.scope x)
+head_at defs follow p _ = Some p
 
 -- The head of a type: the first type on the chain of names that is no type reference, within a number of steps
 -- (X.680 14.1).

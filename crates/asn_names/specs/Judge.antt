@@ -1,21 +1,16 @@
--- Whether a type accepts a value tree, within a number of steps.
+-- Whether a type accepts a value tree, within a number of steps. A form that no text has yet accepts nothing.
 use Rattle.std.specs.Prelude.{ℕ, zero, suc, Bool, false, ◌||◌, List, [], ◌∷◌, ℤ, int_le, int_lt, nat_le, Option, Some, None, is_some, if◌then◌else◌}
 use Rattle.std.specs.Str.{bytes_eq}
-use Rattle.asn_tree.specs.declared.constraints.Constraint.{Constraint}
-use Rattle.asn_tree.specs.declared.constraints.Constraint.TheVariants.{SubtypeConstraint}
-use Rattle.asn_tree.specs.declared.constraints.ElementOrSetOperation.{ElementOrSetOperation}
-use Rattle.asn_tree.specs.declared.constraints.ElementOrSetOperation.TheVariants.{Element}
-use Rattle.asn_tree.specs.declared.constraints.SubtypeElement.{SubtypeElement}
-use Rattle.asn_tree.specs.declared.constraints.SubtypeElement.TheVariants.{ValueRange}
-use Rattle.asn_tree.specs.declared.definitions.ToplevelDefinition.{ToplevelDefinition}
+use Rattle.asn_tree.specs.declared.constraints.Constraint.{Constraint, Constraint-F, out-Constraint}
+use Rattle.asn_tree.specs.declared.constraints.ElementOrSetOperation.{ElementOrSetOperation, ElementOrSetOperation-F, out-ElementOrSetOperation}
+use Rattle.asn_tree.specs.declared.constraints.SubtypeElement.{SubtypeElement, SubtypeElement-F, out-SubtypeElement}
 use Rattle.asn_tree.specs.declared.types.ASN1Type.{ASN1Type, ASN1Type-F, out-ASN1Type}
 use Rattle.asn_tree.specs.declared.types.SequenceOrSet.{out-SequenceOrSet}
 use Rattle.asn_tree.specs.declared.types.SequenceOrSetMember.{SequenceOrSetMember, out-SequenceOrSetMember}
-use Rattle.asn_tree.specs.declared.values.ASN1Value.{ASN1Value}
-use Rattle.asn_tree.specs.declared.values.ASN1Value.TheVariants.{Integer as WrittenNumber}
+use Rattle.asn_tree.specs.declared.values.ASN1Value.{ASN1Value, ASN1Value-F, out-ASN1Value}
 use Rattle.asn_names.specs.Answers.{Answer, Yes, No, Unknown, both, answer_of, each}
-use Rattle.asn_names.specs.Definitions.{Definitions, see, type_of}
-use Rattle.asn_names.specs.Layers.{TypeLayer, StructLayer, MemberLayer, BooleanLayer, IntegerLayer, ReferenceLayer}
+use Rattle.asn_names.specs.Definitions.{Definitions, type_named}
+use Rattle.asn_names.specs.Layers.{TypeLayer, StructLayer, MemberLayer, BooleanLayer, IntegerLayer, ReferenceLayer, ConstraintLayer, SetLayer, ElementLayer, ValueLayer}
 use Rattle.asn_names.specs.Scopes.{Scope, Empty, Place}
 use Rattle.asn_names.specs.ValueTrees.{ValueTree, TruthValue, WholeNumber, Struct, Fields, no_field, field, field_named}
 
@@ -87,14 +82,14 @@ fields_at J scope _ x = No
 abbrev pub struct_at : Judging → Scope → ValueTree → StructLayer → Answer
 struct_at J scope t x = both (fields_at J scope t x) (constrained J scope x.constraints t)
 
--- what a definition stands for, to be read in the empty scope
-abbrev pub defined_place : Option ToplevelDefinition → Option Place
+-- a definition's type, to be read in the empty scope
+abbrev pub defined_place : Option ASN1Type → Option Place
 defined_place None = None
-defined_place (Some d) = Some (record { scope = Empty; ty = type_of d })
+defined_place (Some ty) = Some (record { scope = Empty; ty = ty })
 
 -- where a type reference leads (X.680 14.1)
 abbrev pub place_of : Definitions → Scope → ReferenceLayer → Option Place
-place_of defs Empty x = defined_place (see defs x.identifier)
+place_of defs Empty x = defined_place (type_named defs x.identifier)
 
 abbrev pub place_at : Judging → Option Place → ValueTree → Answer
 place_at J None t = Unknown
@@ -105,14 +100,16 @@ abbrev pub reference_at : Definitions → Judging → Scope → ValueTree → Re
 reference_at defs J scope t x = both (place_at J (place_of defs scope x) t) (constrained J scope x.constraints t)
 
 abbrev pub type_at : Definitions → Judging → Scope → ValueTree → TypeLayer → Answer
-type_at defs J scope t (ASN1Type-F.Boolean x) = boolean_at J scope t x
-type_at defs J scope t (ASN1Type-F.Integer x) = integer_at J scope t x
+type_at defs J scope t (ASN1Type-F.ASN1Type::Boolean x) = boolean_at J scope t x
+type_at defs J scope t (ASN1Type-F.ASN1Type::Integer x) = integer_at J scope t x
 type_at defs J scope t (ASN1Type-F.Sequence x) = struct_at J scope t (out-SequenceOrSet x)
 type_at defs J scope t (ASN1Type-F.ElsewhereDeclaredType x) = reference_at defs J scope t x
+type_at defs J scope t _ = No
 
--- the whole number that a value denotes, if it is known
-abbrev pub number_of : ASN1Value → Option ℤ
-number_of (WrittenNumber i) = Some i
+-- the whole number that a value is, if it is one
+abbrev pub number_of : ValueLayer → Option ℤ
+number_of (ASN1Value-F.ASN1Value::Integer i) = Some i
+number_of _ = None
 
 abbrev pub is_from : Bool → ℤ → ℤ → Bool
 is_from is_open i low = if is_open then int_lt low i else int_le low i
@@ -121,13 +118,13 @@ abbrev pub is_up_to : Bool → ℤ → ℤ → Bool
 is_up_to is_open i high = if is_open then int_lt i high else int_le i high
 
 abbrev pub compared : (ℤ → Bool) → Option ℤ → Answer
-compared f None = Unknown
+compared f None = No
 compared f (Some i) = answer_of (f i)
 
 -- MIN and MAX are no bound (X.680 51.4), and a mark beside them leaves out nothing.
 abbrev pub end_at : (ℤ → Bool) → Option ASN1Value → Answer
 end_at f None = Yes
-end_at f (Some v) = compared f (number_of v)
+end_at f (Some v) = compared f (number_of (out-ASN1Value v))
 
 -- A value range has the whole numbers between its ends, without an open end (X.680 51.4).
 abbrev pub range_at : Option ASN1Value → Option ASN1Value → Bool → Bool → ValueTree → Answer
@@ -135,22 +132,25 @@ range_at low high low_open high_open (WholeNumber i) = both (end_at (is_from low
 range_at low high low_open high_open _ = No
 
 -- Extension markers change nothing.
-abbrev pub element_at : Judging → Scope → ValueTree → SubtypeElement → Answer
-element_at J scope t (ValueRange low high low_open high_open extensible) = range_at low high low_open high_open t
+abbrev pub element_at : ValueTree → ElementLayer → Answer
+element_at t (SubtypeElement-F.ValueRange low high low_open high_open extensible) = range_at low high low_open high_open t
+element_at t _ = No
 
-abbrev pub operation_at : Judging → Scope → ValueTree → ElementOrSetOperation → Answer
-operation_at J scope t (Element e) = J (OfElement scope e t)
+abbrev pub operation_at : Judging → Scope → ValueTree → SetLayer → Answer
+operation_at J scope t (ElementOrSetOperation-F.Element e) = J (OfElement scope e t)
+operation_at J scope t _ = No
 
 -- An element set's root decides (X.680 50.1).
-abbrev pub constraint_at : Judging → Scope → ValueTree → Constraint → Answer
-constraint_at J scope t (SubtypeConstraint s) = J (OfOperation scope s.set t)
+abbrev pub constraint_at : Judging → Scope → ValueTree → ConstraintLayer → Answer
+constraint_at J scope t (Constraint-F.SubtypeConstraint s) = J (OfOperation scope s.set t)
+constraint_at J scope t _ = No
 
 -- One step, where `J` answers what is asked in its turn.
 unfoldable pub step : Definitions → Judging → Judging
 step defs J (OfType scope ty t) = type_at defs J scope t (out-ASN1Type ty)
-step defs J (OfConstraint scope c t) = constraint_at J scope t c
-step defs J (OfOperation scope o t) = operation_at J scope t o
-step defs J (OfElement scope e t) = element_at J scope t e
+step defs J (OfConstraint scope c t) = constraint_at J scope t (out-Constraint c)
+step defs J (OfOperation scope o t) = operation_at J scope t (out-ElementOrSetOperation o)
+step defs J (OfElement scope e t) = element_at t (out-SubtypeElement e)
 
 -- The answer within a number of steps: unknown where they do not reach.
 unfoldable pub judge : Definitions → ℕ → Judging

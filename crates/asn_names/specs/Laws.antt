@@ -1,15 +1,16 @@
 -- Laws of meaning.
-use Rattle.std.specs.Prelude.{◌≡◌, ℕ, ◌+◌, List, Some, Bool, true, false}
+use Rattle.std.specs.Prelude.{◌≡◌, ℕ, ◌+◌, List, Option, Some, None, Bool, true, false}
 use Rattle.std.specs.List.{All}
 use Rattle.asn_tree.specs.declared.definitions.ToplevelDefinition.{ToplevelDefinition}
 use Rattle.asn_tree.specs.declared.headers.TaggingEnvironment.{TaggingEnvironment}
 use Rattle.asn_tree.specs.declared.types.ASN1Type.{ASN1Type, ASN1Type-F, out-ASN1Type}
 use Rattle.asn_names.specs.Answers.{Refines, Yes}
-use Rattle.asn_names.specs.Definitions.{Definitions, Module, definitions_of, see, type_of, IsStanding}
+use Rattle.asn_names.specs.Definitions.{Definitions, Module, definitions_of, see, type_of, type_named, IsStanding}
 use Rattle.asn_names.specs.Faults.{IsClean}
 use Rattle.asn_names.specs.Given.{IsGiven}
 use Rattle.asn_names.specs.Judge.{Query, OfType, judge}
-use Rattle.asn_names.specs.Kept.{given_definitions, retagged}
+use Rattle.asn_names.specs.Kept.{given_definitions}
+use Rattle.asn_tree.specs.Tagging.{retagged}
 use Rattle.asn_names.specs.Layers.{TypeLayer}
 use Rattle.asn_names.specs.Meaning.{Accepts, AcceptsAlike, IsDecided, Rejects, is_plain}
 use Rattle.asn_names.specs.Occurrences.{names_in}
@@ -29,18 +30,23 @@ OneAnswer = (defs : Definitions) (scope : Scope) (ty : ASN1Type) (t : ValueTree)
 
 -- whether one level of a type is no type reference
 abbrev pub is_head : TypeLayer → Bool
-is_head (ASN1Type-F.Boolean x) = true
-is_head (ASN1Type-F.Integer x) = true
-is_head (ASN1Type-F.Sequence x) = true
 is_head (ASN1Type-F.ElsewhereDeclaredType x) = false
+is_head _ = true
+
+-- whether a definition's own type, where it has one, is no type reference
+abbrev pub is_head_at : Option ASN1Type → Bool
+is_head_at None = true
+is_head_at (Some ty) = is_head (out-ASN1Type ty)
 
 -- No definition's own type is a type reference.
 abbrev pub AreHeads : Definitions → Type 0
-AreHeads defs = All (λ d. is_head (out-ASN1Type (type_of d)) ≡ true) defs
+AreHeads defs = All (λ d. is_head_at (type_of d) ≡ true) defs
 
 -- Every tree is decided under the type of a clean definition.
 abbrev pub EveryTreeDecided : Type 0
-EveryTreeDecided = (defs : Definitions) → AreHeads defs → (d : ToplevelDefinition) → IsClean defs d → (t : ValueTree) → IsDecided defs (type_of d) t
+EveryTreeDecided =
+    (defs : Definitions) → AreHeads defs → (d : ToplevelDefinition) → IsClean defs d →
+    (ty : ASN1Type) → type_of d ≡ Some ty → (t : ValueTree) → IsDecided defs ty t
 
 -- What a name stands for among the given definitions is what it stands for in the reading, as linking gives it.
 abbrev pub SeesGiven : Type 0
@@ -53,12 +59,14 @@ RetaggingKeepsJudgement =
     (environment : TaggingEnvironment) (scope : Scope) (ty : ASN1Type) (t : ValueTree) (n : ℕ) →
     judge linked n (OfType scope (retagged environment ty) t) ≡ judge (definitions_of reading) n (OfType scope ty t)
 
--- What a name stands for among the linked definitions accepts exactly the trees of what it stands for in the reading.
+-- The type that a name stands for in the reading stands for it, retagged, among the linked definitions, and accepts there
+-- exactly the same trees.
 abbrev pub LinkedAcceptsAlike : Type 0
 LinkedAcceptsAlike =
     (reading : List Module) (linked : Definitions) → IsStanding (given_definitions reading) linked →
-    (name : List ℕ) (d e : ToplevelDefinition) → see (definitions_of reading) name ≡ Some d → see linked name ≡ Some e →
-    AcceptsAlike (definitions_of reading) linked (type_of d) (type_of e)
+    (name : List ℕ) (ty : ASN1Type) → type_named (definitions_of reading) name ≡ Some ty →
+    (environment : TaggingEnvironment) × (type_named linked name ≡ Some (retagged environment ty))
+    × AcceptsAlike (definitions_of reading) linked ty (retagged environment ty)
 
 -- Retagging changes no name in a type.
 abbrev pub RetaggingKeepsNames : Type 0

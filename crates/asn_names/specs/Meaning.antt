@@ -1,9 +1,10 @@
 -- What a type means: the trees that it accepts.
 use Rattle.std.specs.Prelude.{◌≡◌, ℕ, Bool, true, false, ◌&&◌, List, [], ◌∷◌, ◌↔◌}
 use Rattle.std.specs.List.{list_all}
-use Rattle.asn_tree.specs.declared.types.ASN1Type.{ASN1Type, ASN1Type-F, fold-ASN1Type}
+use Rattle.asn_tree.specs.declared.types.ASN1Type.{ASN1Type, ASN1Type-F}
 use Rattle.asn_tree.specs.declared.types.SequenceOrSet.{SequenceOrSet-F}
 use Rattle.asn_tree.specs.declared.types.SequenceOrSetMember.{SequenceOrSetMember-F}
+use Rattle.asn_tree.specs.Folds.{Algebra, constant, of_type}
 use Rattle.asn_names.specs.Answers.{Yes, No, IsKnown}
 use Rattle.asn_names.specs.Definitions.{Definitions}
 use Rattle.asn_names.specs.Judge.{OfType, judge}
@@ -31,22 +32,27 @@ abbrev pub has_no_name : List (List ℕ) → Bool
 has_no_name [] = true
 has_no_name (name ∷ names) = false
 
--- one level of a type, where its parts are plain or not
-abbrev pub type_plain : ASN1Type-F Bool Bool Bool → Bool
-type_plain (ASN1Type-F.Boolean x) = true
-type_plain (ASN1Type-F.Integer x) = true
+-- one level of a type, where its parts are plain or not; a form that no text has yet is not
+abbrev pub type_plain : ASN1Type-F Bool Bool Bool Bool Bool Bool Bool Bool Bool Bool Bool Bool Bool Bool Bool Bool Bool → Bool
+type_plain (ASN1Type-F.ASN1Type::Boolean x) = true
+type_plain (ASN1Type-F.ASN1Type::Integer x) = true
 type_plain (ASN1Type-F.Sequence x) = x
 type_plain (ASN1Type-F.ElsewhereDeclaredType x) = true
+type_plain _ = false
 
-abbrev pub struct_plain : SequenceOrSet-F Bool Bool Bool → Bool
+abbrev pub struct_plain : SequenceOrSet-F Bool Bool Bool Bool Bool Bool Bool Bool Bool Bool Bool Bool Bool Bool Bool Bool Bool → Bool
 struct_plain x = has_no_name x.components_of && list_all (λ b. b) x.members
 
-abbrev pub member_plain : SequenceOrSetMember-F Bool Bool Bool → Bool
+abbrev pub member_plain : SequenceOrSetMember-F Bool Bool Bool Bool Bool Bool Bool Bool Bool Bool Bool Bool Bool Bool Bool Bool Bool → Bool
 member_plain x = x.ty
 
--- At no depth a COMPONENTS OF stands, whose members would have to be looked up (X.680 25.1).
+abbrev pub plainness : Algebra Bool
+plainness = record (constant false) { at_type = type_plain; at_struct = struct_plain; at_member = member_plain }
+
+-- At every depth a form of the notation that is read so far stands, and no COMPONENTS OF, whose members would have to be
+-- looked up (X.680 25.1).
 unfoldable pub is_plain : ASN1Type → Bool
-is_plain = fold-ASN1Type Bool Bool Bool type_plain struct_plain member_plain
+is_plain = of_type plainness
 
 abbrev pub IsPlain : ASN1Type → Type 0
 IsPlain ty = is_plain ty ≡ true

@@ -33,11 +33,13 @@ abbrev pub led_fits : Fitting → Option Place → ValueTree → Answer
 led_fits F None t = Unknown
 led_fits F (Some p) t = F p t
 
+-- nothing fits a form that no text has yet
 abbrev pub type_fits : Definitions → Fitting → Scope → ValueTree → TypeLayer → Answer
-type_fits defs F scope t (ASN1Type-F.Boolean x) = is_truth_value t
-type_fits defs F scope t (ASN1Type-F.Integer x) = is_whole_number t
+type_fits defs F scope t (ASN1Type-F.ASN1Type::Boolean x) = is_truth_value t
+type_fits defs F scope t (ASN1Type-F.ASN1Type::Integer x) = is_whole_number t
 type_fits defs F scope t (ASN1Type-F.Sequence x) = struct_fits F scope t (out-SequenceOrSet x)
 type_fits defs F scope t (ASN1Type-F.ElsewhereDeclaredType x) = led_fits F (place_of defs scope x) t
+type_fits defs F scope t _ = No
 
 -- Within a number of steps: unknown where they do not reach.
 unfoldable pub shape : Definitions → ℕ → Fitting

@@ -30,21 +30,22 @@ impl<'t> Names<'t> {
                     None
                 }
             }
+            ToplevelDefinition::Value(_) => None,
+            ToplevelDefinition::Information(_) => None,
         }
     }
 
-    /// Whether a name that occurs in the type has no definition.
+    /// Whether a name that occurs in the type stands for no type.
     #[cycle(missing)]
     fn is_missing_in(&self, ty: &ASN1Type) -> bool
         ensures { result ≡ list_any (is_missing self.now.definitions.now) (names_in ty.now) }
     {
         match ty {
-            ASN1Type::Boolean(_) => false,
-            ASN1Type::Integer(_) => false,
             ASN1Type::Sequence(sequence) => self.is_missing_in_members(&sequence.members),
             ASN1Type::ElsewhereDeclaredType(reference) => {
-                self.see(reference.identifier.as_str()).is_none()
+                self.type_named(reference.identifier.as_str()).is_none()
             }
+            _ => false,
         }
     }
 

@@ -16,7 +16,7 @@ use crate::names::Names;
 use crate::trees::{Answer, Field, Tree};
 use asn_tree::{
     ASN1Type, ASN1Value, Constraint, DeclarationElsewhere, ElementOrSetOperation, SequenceOrSet,
-    SequenceOrSetMember, SubtypeElement, ToplevelDefinition,
+    SequenceOrSetMember, SubtypeElement,
 };
 
 /// Whether the tree is a truth value.
@@ -56,6 +56,7 @@ fn from_low(low: &Option<ASN1Value>, is_open: bool, number: i128) -> Answer
                 *low <= number
             })
         }
+        Some(_) => Answer::No,
     }
 }
 
@@ -72,6 +73,7 @@ fn up_to_high(high: &Option<ASN1Value>, is_open: bool, number: i128) -> Answer
                 number <= *high
             })
         }
+        Some(_) => Answer::No,
     }
 }
 
@@ -96,7 +98,7 @@ fn in_range(
     }
 }
 
-#[tactic(auto, using(crate::proofs::Judging::judge_none, crate::proofs::Judging::range_element))]
+#[tactic(auto, using(crate::proofs::Judging::judge_none, crate::proofs::Judging::range_element, crate::proofs::Judging::other_element))]
 fn judge_element(element: &SubtypeElement, tree: &Tree, steps: usize) -> Answer
     ensures { (defs : Definitions) → result ≡ judge defs steps (OfElement Empty element.now (shown tree.now)) }
 {
@@ -111,10 +113,11 @@ fn judge_element(element: &SubtypeElement, tree: &Tree, steps: usize) -> Answer
             max_open,
             ..
         } => in_range(min, max, *min_open, *max_open, tree),
+        _ => Answer::No,
     }
 }
 
-#[tactic(auto, using(crate::proofs::Judging::judge_none, crate::proofs::Judging::one_element))]
+#[tactic(auto, using(crate::proofs::Judging::judge_none, crate::proofs::Judging::one_element, crate::proofs::Judging::set_layer))]
 fn judge_operation(operation: &ElementOrSetOperation, tree: &Tree, steps: usize) -> Answer
     ensures { (defs : Definitions) → result ≡ judge defs steps (OfOperation Empty operation.now (shown tree.now)) }
 {
@@ -123,10 +126,11 @@ fn judge_operation(operation: &ElementOrSetOperation, tree: &Tree, steps: usize)
     }
     match operation {
         ElementOrSetOperation::Element(element) => judge_element(element, tree, steps - 1),
+        ElementOrSetOperation::SetOperation(_) => Answer::No,
     }
 }
 
-#[tactic(auto, using(crate::proofs::Judging::judge_none, crate::proofs::Judging::set_constraint))]
+#[tactic(auto, using(crate::proofs::Judging::judge_none, crate::proofs::Judging::set_constraint, crate::proofs::Judging::constraint_layer))]
 fn judge_constraint(constraint: &Constraint, tree: &Tree, steps: usize) -> Answer
     ensures { (defs : Definitions) → result ≡ judge defs steps (OfConstraint Empty constraint.now (shown tree.now)) }
 {
@@ -135,6 +139,9 @@ fn judge_constraint(constraint: &Constraint, tree: &Tree, steps: usize) -> Answe
     }
     match constraint {
         Constraint::SubtypeConstraint(set) => judge_operation(&set.set, tree, steps - 1),
+        Constraint::TableConstraint(_) => Answer::No,
+        Constraint::Parameter(_) => Answer::No,
+        Constraint::ContentConstraint(_) => Answer::No,
     }
 }
 
@@ -258,10 +265,8 @@ fn judge_reference(
 ) -> Answer
     ensures { result ≡ place_at (judge names.now.definitions.now steps) (place_of names.now.definitions.now Empty reference.now) (shown tree.now) }
 {
-    match names.see(reference.identifier.as_str()) {
-        Some(ToplevelDefinition::TypeDef(definition)) => {
-            judge_type(names, &definition.ty, tree, steps)
-        }
+    match names.type_named(reference.identifier.as_str()) {
+        Some(ty) => judge_type(names, ty, tree, steps),
         None => Answer::Unknown,
     }
 }
@@ -269,7 +274,7 @@ fn judge_reference(
 /// Whether the type accepts the tree, as far as this number of steps tells. Following a name costs one step, and so
 /// does going down one level of a type.
 #[cycle(judging)]
-#[tactic(auto, using(crate::proofs::Judging::judge_none, crate::proofs::Judging::boolean_type, crate::proofs::Judging::integer_type, crate::proofs::Judging::struct_type, crate::proofs::Judging::reference_type))]
+#[tactic(auto, using(crate::proofs::Judging::judge_none, crate::proofs::Judging::boolean_type, crate::proofs::Judging::integer_type, crate::proofs::Judging::struct_type, crate::proofs::Judging::reference_type, crate::proofs::Judging::other_type))]
 pub fn judge_type(names: &Names, ty: &ASN1Type, tree: &Tree, steps: usize) -> Answer
     ensures { result ≡ judge names.now.definitions.now steps (OfType Empty ty.now (shown tree.now)) }
 {
@@ -290,5 +295,6 @@ pub fn judge_type(names: &Names, ty: &ASN1Type, tree: &Tree, steps: usize) -> An
         ASN1Type::ElsewhereDeclaredType(reference) => judge_reference(
             names, reference, tree, left,
         ).and(judge_constraints(reference.constraints.as_slice(), tree, left)),
+        _ => Answer::No,
     }
 }

@@ -14,7 +14,7 @@ pub fn one_answer()
     ensures { OneAnswer }
 {}
 
-/// Every tree is accepted or rejected by the type of a clean definition, where no definition's own type is a type
+/// Every tree is accepted or rejected by the type of a clean type definition, where no definition's own type is a type
 /// reference.
 pub fn every_tree_decided()
     ensures { EveryTreeDecided }
@@ -30,7 +30,7 @@ pub fn retagging_keeps_judgement()
     ensures { RetaggingKeepsJudgement }
 {}
 
-/// What a name stands for accepts the same trees before and after linking.
+/// The type that a name stands for stands for it, retagged, after linking, and accepts the same trees.
 pub fn linked_accepts_alike()
     ensures { LinkedAcceptsAlike }
 {}

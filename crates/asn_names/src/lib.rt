@@ -10,8 +10,6 @@ mod judge;
 mod laws;
 mod look;
 mod names;
-#[cfg(test)]
-mod tests;
 mod trees;
 
 pub use faults::Fault;

@@ -1,6 +1,6 @@
 //! Making an index of names, and looking names up in it.
 
-ghost use Rattle.asn_names.specs.Definitions.{is_duplicate, IsStanding, see};
+ghost use Rattle.asn_names.specs.Definitions.{is_duplicate, IsStanding, see, type_named};
 ghost use Rattle.asn_names.specs.Index.{found_at, IsIndexOf};
 ghost use Rattle.std.specs.BTreeMap.{get, get_by_text, IsOrdered};
 ghost use Rattle.std.specs.Prelude.{◌≡◌, ◌<◌, IfOk, OnOk, Some, ℕ, List as Sequence, length, map, if◌then◌else◌};
@@ -11,7 +11,7 @@ ghost use Rattle.std.specs.Option.{option_copied};
 
 use crate::names::{Names, Place};
 use asn_memory::{List, Mem, OutOfMemory, Text};
-use asn_tree::ToplevelDefinition;
+use asn_tree::{ASN1Type, ToplevelDefinition};
 use std::alloc::Global;
 use std::collections::BTreeMap;
 
@@ -30,6 +30,18 @@ impl<'t> Names<'t> {
     {
         match self.index.get(name) {
             Some(place) => self.definitions.get(place.at),
+            None => None,
+        }
+    }
+
+    /// The type that a name stands for, where its definition is that of a type.
+    pub fn type_named(&self, name: &str) -> Option<&'t ASN1Type>
+        ensures { option_copied result ≡ type_named self.now.definitions.now name.now }
+    {
+        match self.see(name) {
+            Some(ToplevelDefinition::TypeDef(definition)) => Some(&definition.ty),
+            Some(ToplevelDefinition::Value(_)) => None,
+            Some(ToplevelDefinition::Information(_)) => None,
             None => None,
         }
     }

@@ -8,6 +8,8 @@
 #[cfg(test)]
 mod calls;
 #[cfg(test)]
+mod judging;
+#[cfg(test)]
 mod meaning;
 #[cfg(test)]
 mod memory;

@@ -4,7 +4,6 @@ use crate::readings::reading_of;
 use asn_check::link_reading;
 use asn_memory::{List, Mem, Text};
 use asn_names::{Answer, Field, Names, Tree, judge_type};
-use asn_tree::ToplevelDefinition;
 use std::alloc::Global;
 use std::test::Fail;
 
@@ -15,13 +14,9 @@ const TEXT: &str =
 // More steps than any judgement here takes.
 const STEPS: usize = 64;
 
-// What the definition of this name answers; None where there is none.
+// What the type of this name answers; None where there is none.
 fn answer_of(names: &Names, name: &str, tree: &Tree) -> Option<Answer> {
-    match names.see(name)? {
-        ToplevelDefinition::TypeDef(definition) => {
-            Some(judge_type(names, &definition.ty, tree, STEPS))
-        }
-    }
+    Some(judge_type(names, names.type_named(name)?, tree, STEPS))
 }
 
 // The same of the text's linked answer.

@@ -44,6 +44,7 @@ fn is_sequence(definition: &ToplevelDefinition) -> bool {
         ToplevelDefinition::TypeDef(definition) => {
             matches!(&definition.ty, ASN1Type::Sequence(_))
         }
+        _ => false,
     }
 }
 

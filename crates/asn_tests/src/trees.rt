@@ -18,6 +18,7 @@ fn run_whole(alloc: Global) -> Result<Ended, Fail> {
 fn range_of_definition(definition: &ToplevelDefinition) -> Option<(i128, i128)> {
     match definition {
         ToplevelDefinition::TypeDef(definition) => range_in(&definition.ty),
+        _ => None,
     }
 }
 

@@ -9,43 +9,33 @@ use Rattle.asn_rules.specs.Nodes.{Opened, child_of, child_among, at_child, at_ch
 use Rattle.asn_rules.proofs.Nodes.{para_out, paired, opened}
 use Rattle.asn_tree.specs.declared.constraints.Constraint.{Constraint}
 use Rattle.asn_tree.specs.declared.definitions.ToplevelDefinition.{ToplevelDefinition}
-use Rattle.asn_tree.specs.declared.types.ASN1Type.{ASN1Type, ASN1Type-F, out-ASN1Type, out-roll-ASN1Type, fold-ASN1Type, fold_out-ASN1Type, map-ASN1Type}
+use Rattle.asn_tree.specs.declared.types.ASN1Type.{ASN1Type, ASN1Type-F, out-ASN1Type, out-roll-ASN1Type}
 use Rattle.asn_tree.specs.declared.types.ASN1Type.TheVariants.{outs-Boolean, outs-Integer, outs-ElsewhereDeclaredType}
-use Rattle.asn_tree.specs.declared.types.SequenceOrSet.{SequenceOrSet, SequenceOrSet-F, roll-SequenceOrSet, fold-SequenceOrSet, fold-roll-SequenceOrSet}
-use Rattle.asn_tree.specs.declared.types.SequenceOrSetMember.{SequenceOrSetMember, fold-SequenceOrSetMember, fold-roll-SequenceOrSetMember}
+use Rattle.asn_tree.specs.declared.types.SequenceOrSet.{SequenceOrSet, roll-SequenceOrSet, out-roll-SequenceOrSet}
+use Rattle.asn_tree.specs.declared.types.SequenceOrSetMember.{SequenceOrSetMember, roll-SequenceOrSetMember, out-roll-SequenceOrSetMember}
+use Rattle.asn_tree.specs.Folds.{member_is, member_read, of_member, of_struct, struct_is, struct_read, type_is, type_read}
+use Rattle.asn_tree.specs.Layers.{StructLayer, MemberLayer, TypeLayer}
 use Rattle.asn_modules.specs.Parts.{name_of}
 use Rattle.asn_modules.specs.Types.{Typed, typed, typed_step, type_step, a_boolean, an_integer, a_reference, a_struct, a_member, first_type, nodes, integer_with, reference_to}
 use Rattle.asn_modules.specs.Modules.{defined_by, no_definition, declared_in, definition_of, module_of, reading_of}
 use Rattle.asn_names.specs.Definitions.{Definitions, definitions_of, see, or_else, is_named}
 use Rattle.asn_names.specs.Definitions as defined
-use Rattle.asn_names.specs.Meaning.{is_plain, IsPlain, type_plain, struct_plain, member_plain}
-
-abbrev plain_struct : SequenceOrSet → Bool
-plain_struct = fold-SequenceOrSet Bool Bool Bool type_plain struct_plain member_plain
+use Rattle.asn_names.specs.Meaning.{is_plain, IsPlain, plainness, struct_plain, member_plain, type_plain}
 
 abbrev plain_member : SequenceOrSetMember → Bool
-plain_member = fold-SequenceOrSetMember Bool Bool Bool type_plain struct_plain member_plain
+plain_member = of_member plainness
 
 abbrev PlainMembers : List SequenceOrSetMember → Type 0
 PlainMembers ms = list_all (λ b. b) (map plain_member ms) ≡ true
 
 -- ---- the types that nodes are read as
 
-abbrev layer_plain : ASN1Type-F ASN1Type SequenceOrSet SequenceOrSetMember → Bool
-layer_plain (ASN1Type-F.Boolean x) = true
-layer_plain (ASN1Type-F.Integer x) = true
-layer_plain (ASN1Type-F.Sequence x) = plain_struct x
-layer_plain (ASN1Type-F.ElsewhereDeclaredType x) = true
+abbrev layer_plain : TypeLayer → Bool
+layer_plain x = type_plain (type_read plainness x)
 
 plain_is : (t : ASN1Type) → is_plain t ≡ layer_plain (out-ASN1Type t)
 unfolding is_plain
-plain_is t = fold_out-ASN1Type Bool Bool Bool type_plain struct_plain member_plain t ∙ go (out-ASN1Type t)
-  where
-    go : (x : ASN1Type-F ASN1Type SequenceOrSet SequenceOrSetMember) → type_plain (map-ASN1Type ASN1Type SequenceOrSet SequenceOrSetMember Bool Bool Bool (fold-ASN1Type Bool Bool Bool type_plain struct_plain member_plain) plain_struct plain_member x) ≡ layer_plain x
-    go (ASN1Type-F.Boolean x) = refl
-    go (ASN1Type-F.Integer x) = refl
-    go (ASN1Type-F.Sequence x) = refl
-    go (ASN1Type-F.ElsewhereDeclaredType x) = refl
+plain_is t = type_is plainness t
 
 boolean_plain : IsPlain a_boolean
 boolean_plain = plain_is a_boolean ∙ ap layer_plain (outs-Boolean (record { constraints = [] }))
@@ -58,16 +48,19 @@ reference_plain name = plain_is (a_reference name) ∙ ap layer_plain (outs-Else
 
 struct_is_plain : (ms : List SequenceOrSetMember) → PlainMembers ms → IsPlain (a_struct ms)
 struct_is_plain ms all =
-    let s : SequenceOrSet-F ASN1Type SequenceOrSet SequenceOrSetMember = record { components_of = []; components_at = []; extensible = None; constraints = []; members = ms } in
+    let s : StructLayer = record { components_of = []; components_at = []; extensible = None; constraints = []; members = ms } in
     plain_is (a_struct ms)
     ∙ ap layer_plain (out-roll-ASN1Type (ASN1Type-F.Sequence (roll-SequenceOrSet s)))
-    ∙ fold-roll-SequenceOrSet Bool Bool Bool type_plain struct_plain member_plain s
+    ∙ struct_is plainness (roll-SequenceOrSet s)
+    ∙ ap (λ x. struct_plain (struct_read plainness x)) (out-roll-SequenceOrSet s)
     ∙ all
 
 member_is_plain : (name : List ℕ) (ty : ASN1Type) → IsPlain ty → plain_member (a_member name ty) ≡ true
 unfolding is_plain
 member_is_plain name ty plain =
-    fold-roll-SequenceOrSetMember Bool Bool Bool type_plain struct_plain member_plain (record { name = name; tag = None; ty = ty; default_value = None; is_optional = false; is_recursive = false; constraints = [] })
+    let m : MemberLayer = record { name = name; tag = None; ty = ty; default_value = None; is_optional = false; is_recursive = false; constraints = [] } in
+    member_is plainness (roll-SequenceOrSetMember m)
+    ∙ ap (λ x. member_plain (member_read plainness x)) (out-roll-SequenceOrSetMember m)
     ∙ plain
 
 record PlainTyped (t : Typed) : Type 0 where
@@ -136,8 +129,13 @@ module _ (text : List ℕ) where
 
   -- ---- the definitions that nodes are read as
 
+  -- a definition's own type, where it has one, is in plain form
+  abbrev PlainAt : Option ASN1Type → Type 0
+  PlainAt None = Unit {0}
+  PlainAt (Some ty) = IsPlain ty
+
   abbrev PlainDefinition : ToplevelDefinition → Type 0
-  PlainDefinition d = IsPlain (defined.type_of d)
+  PlainDefinition d = PlainAt (defined.type_of d)
 
   child_keeps : (o : Option Node) (z : ToplevelDefinition) (f : Node → ToplevelDefinition) → PlainDefinition z → ((n : Node) → PlainDefinition (f n)) → PlainDefinition (at_child o z f)
   child_keeps None z f p keeps = p
@@ -189,5 +187,5 @@ module _ (text : List ℕ) where
       go None true later h = let same : x ≡ d = cc in subst PlainDefinition same all.0
       go None false later h = absurd cc
 
-  pub reading_plain : (n : Node) (name : List ℕ) (d : ToplevelDefinition) → see (definitions_of (reading_of text n)) name ≡ Some d → IsPlain (defined.type_of d)
-  reading_plain n name d seen = seen_plain name (definitions_of (reading_of text n)) d (modules_plain (out-Node n).children) seen
+  pub reading_plain : (n : Node) (name : List ℕ) (d : ToplevelDefinition) → (ty : ASN1Type) → see (definitions_of (reading_of text n)) name ≡ Some d → defined.type_of d ≡ Some ty → IsPlain ty
+  reading_plain n name d ty seen is = subst PlainAt is (seen_plain name (definitions_of (reading_of text n)) d (modules_plain (out-Node n).children) seen)

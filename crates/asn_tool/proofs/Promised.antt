@@ -5,7 +5,7 @@ use Rattle.std.specs.Global.{Global}
 use Rattle.asn_check.specs.declared.linked.Linked.{Linked}
 use Rattle.asn_check.specs.Linked.{IsLinkedOf}
 use Rattle.asn_modules.specs.Whole.{IsReading}
-use Rattle.asn_names.specs.Definitions.{Module, definitions_of, see, type_of}
+use Rattle.asn_names.specs.Definitions.{Module, definitions_of, see}
 use Rattle.asn_names.specs.Meaning.{IsPlain}
 use Rattle.asn_rules.specs.Expression.{rule}
 use Rattle.asn_rules.specs.First.{first}
@@ -42,9 +42,9 @@ came due OutOfMemory text before after faults faults' d = inl d
 
 -- the linked answer of a text means what is read
 means : (text : List ℕ) (reading : List Module) (linked : Linked) → IsReading text reading → IsLinkedOf reading linked → MeansWhatIsRead reading linked.definitions
-means text reading linked reads links name d seen clean free =
-    let m = links.meaning name d seen clean free in
-    let plain : IsPlain (type_of d) = reading_plain text reads.1 name d (ap (λ r. see (definitions_of r) name) (sym reads.3) ∙ seen) in
+means text reading linked reads links name d seen ty is clean free =
+    let m = links.meaning name d seen ty is clean free in
+    let plain : IsPlain ty = reading_plain text reads.1 name d ty (ap (λ r. see (definitions_of r) name) (sym reads.3) ∙ seen) is in
     (m.0, m.1, m.3 ∙ plain, m.2)
 
 -- ---- a text is judged in one way

@@ -5,12 +5,13 @@ use Rattle.asn_check.specs.Listing.{listing_of}
 use Rattle.asn_check.specs.Meaning.{parameters_of}
 use Rattle.asn_check.specs.Warnings.{said_by, warnings_of}
 use Rattle.asn_modules.specs.Whole.{IsMatchingError, IsReading}
-use Rattle.asn_names.specs.Definitions.{Definitions, Module, definitions_of, see, type_of, name_of, IsStanding}
+use Rattle.asn_names.specs.Definitions.{Definitions, Module, definitions_of, see, type_named, type_of, name_of, IsStanding}
 use Rattle.asn_names.specs.Faults.{IsClean}
 use Rattle.asn_names.specs.Kept.{given_definitions}
 use Rattle.asn_names.specs.Meaning.{AcceptsAlike, IsPlain}
 use Rattle.asn_text.specs.declared.report.LexerError.{LexerError}
 use Rattle.asn_tree.specs.declared.definitions.ToplevelDefinition.{ToplevelDefinition}
+use Rattle.asn_tree.specs.declared.types.ASN1Type.{ASN1Type}
 use Rattle.asn_tool.specs.declared.ended.Ended.{Ended}
 use Rattle.asn_tool.specs.declared.status.Status.{Status}
 use Rattle.asn_tool.specs.declared.status.Status.TheVariants.{Clean, Warned, Matching, TooDeep, NotUtf8, TooLong}
@@ -26,9 +27,10 @@ IsListing status = (status ≡ Clean) ⊎ (status ≡ Warned)
 abbrev pub MeansWhatIsRead : List Module → Definitions → Type 0
 MeansWhatIsRead reading linked =
     (name : List ℕ) (d : ToplevelDefinition) → see (definitions_of reading) name ≡ Some d →
+    (ty : ASN1Type) → type_of d ≡ Some ty →
     IsClean (definitions_of reading) d → parameters_of d ≡ None →
-    (e : ToplevelDefinition) × (see linked name ≡ Some e) × IsPlain (type_of e)
-    × AcceptsAlike (definitions_of reading) linked (type_of d) (type_of e)
+    (linked_ty : ASN1Type) × (type_named linked name ≡ Some linked_ty) × IsPlain linked_ty
+    × AcceptsAlike (definitions_of reading) linked ty linked_ty
 
 -- The listing of one linked answer of the text is written, and the answer means what the text says.
 pub record Prints (depth : ℕ) (text : List ℕ) (written written' : Option (List ℕ)) (ended : Ended) : Type 0 where

@@ -1,3 +1,5 @@
 pub mod Backs
 pub mod Misses
+pub mod Moves
 pub mod Numerals
+pub mod Sorts

@@ -1,4 +1,14 @@
 pub mod Calls
+pub mod Folds
+pub mod Layers
 pub mod Listing
-pub mod Settings
+pub mod Making
+pub mod MakingComponents
+pub mod MakingConstraints
+pub mod MakingHeaders
+pub mod MakingObjects
+pub mod MakingTypes
+pub mod Passes
 pub mod Plain
+pub mod Settings
+pub mod Tagging

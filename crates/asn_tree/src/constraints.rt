@@ -1,12 +1,193 @@
-//! Constraints (X.680 clauses 49 to 51).
+//! Constraints (X.680 clauses 49 to 51, X.682 clauses 8 to 11) and the arguments of templates (X.683 clause 9).
 
+use crate::objects::{InformationObjectFields, ObjectSet, ObjectSetOver};
+use crate::settings::PropertySettings;
+use crate::types::ASN1Type;
 use crate::values::ASN1Value;
+use asn_memory::{Box, List, Text};
 
-/// A constraint on a type (X.680 49.6).
+/// A constraint on a type (X.680 49.6), or the arguments of the template that stands before it.
+#[cycle(tree)]
 #[derive(Drop)]
 pub enum Constraint {
     /// A set of values (X.680 50.1).
     SubtypeConstraint(ElementSet),
+    /// An object set, whose columns the type is tied to (X.682 10.3).
+    TableConstraint(TableConstraint),
+    /// The arguments of a template (X.683 9.1).
+    Parameter(List<Parameter>),
+    /// What a string holds (X.682 11.1).
+    ContentConstraint(ContentConstraint),
+}
+
+/// What a BIT STRING or OCTET STRING holds, or how it is encoded (X.682 11.1).
+#[cycle(tree)]
+#[derive(Drop)]
+pub enum ContentConstraint {
+    /// An encoding of a value of this type.
+    Containing(ASN1Type),
+    /// What the encoding rules of this object identifier give.
+    EncodedBy(ASN1Value),
+    /// Both.
+    ContainingEncodedBy {
+        containing: ASN1Type,
+        encoded_by: ASN1Value,
+    },
+}
+
+/// An argument of a template (X.683 9.5).
+#[cycle(tree)]
+#[derive(Drop)]
+pub enum Parameter {
+    ValueParameter(ASN1Value),
+    TypeParameter(ASN1Type),
+    InformationObjectParameter(InformationObjectFields),
+    ObjectSetParameter(ObjectSet),
+}
+
+/// What joins two sets of values (X.680 50.1).
+#[derive(Clone, Copy, Debug, PartialEq, Eq)]
+pub enum SetOperator {
+    Intersection,
+    Union,
+    Except,
+}
+
+/// A constraint joined with others by set operators.
+#[derive(Drop)]
+pub struct CompositeConstraint {
+    pub base_constraint: Box<Constraint>,
+    /// The others in order, each behind its operator.
+    pub operation: List<(SetOperator, Box<Constraint>)>,
+    /// Whether an extension marker follows.
+    pub extensible: bool,
+}
+
+/// What is asked of a component's presence (X.680 51.8.9).
+#[derive(Clone, Copy, Debug, PartialEq, Eq)]
+pub enum ComponentPresence {
+    /// It is absent.
+    Absent,
+    /// It is present.
+    Present,
+    /// The word OPTIONAL stands: either.
+    Optional,
+    /// No word stands.
+    Unspecified,
+}
+
+/// The components of a `WITH COMPONENTS` (X.680 51.8.6).
+#[derive(Drop)]
+pub struct InnerTypeConstraintOver<C> {
+    /// Whether the list begins with `...`: components that are not listed are free.
+    pub is_partial: bool,
+    /// The listed components in order.
+    pub constraints: List<ConstrainedComponentOver<C>>,
+}
+
+/// The components of a `WITH COMPONENTS` over the constraints of this notation.
+pub type InnerTypeConstraint = InnerTypeConstraintOver<Constraint>;
+
+/// A listed component with what is asked of it (X.680 51.8.7).
+#[derive(Drop)]
+pub struct ConstrainedComponentOver<C> {
+    pub identifier: Text,
+    pub constraints: List<C>,
+    pub presence: ComponentPresence,
+}
+
+/// A listed component over the constraints of this notation.
+pub type ConstrainedComponent = ConstrainedComponentOver<Constraint>;
+
+/// A range of values, of which one value is a case.
+#[derive(Drop)]
+pub struct ValueConstraint {
+    /// The lower end; None is MIN.
+    pub min_value: Option<ASN1Value>,
+    /// The upper end; None is MAX.
+    pub max_value: Option<ASN1Value>,
+    /// Whether an extension marker follows.
+    pub extensible: bool,
+}
+
+/// A table constraint, with the fields that choose a row (X.682 10.3, 10.7).
+#[derive(Drop)]
+pub struct TableConstraintOver<F> {
+    pub object_set: ObjectSetOver<F>,
+    /// The names after `@`, in order.
+    pub linked_fields: List<RelationalConstraint>,
+}
+
+/// A table constraint over the object fields of this notation.
+pub type TableConstraint = TableConstraintOver<InformationObjectFields>;
+
+/// A name after `@` (X.682 10.7).
+#[derive(Drop, PartialEq, Eq)]
+pub struct RelationalConstraint {
+    pub field_name: Text,
+    /// 0 where the name starts at the outermost type; else how many types outwards from the innermost it starts.
+    pub level: usize,
+}
+
+/// A pattern (X.680 51.9).
+#[derive(Drop, PartialEq, Eq)]
+pub struct PatternConstraint {
+    /// The text between the quotes.
+    pub pattern: Text,
+}
+
+/// A constraint that the notation does not tell (X.682 9.1).
+#[derive(Drop, PartialEq, Eq)]
+pub struct UserDefinedConstraint {
+    /// The text between the braces.
+    pub definition: Text,
+}
+
+/// A subtype element (X.680 51.1).
+#[cycle(tree)]
+#[derive(Drop)]
+pub enum SubtypeElement {
+    /// A single value (X.680 51.2).
+    SingleValue {
+        value: ASN1Value,
+        /// Whether an extension marker follows the value.
+        extensible: bool,
+    },
+    /// The values of another type (X.680 51.3).
+    ContainedSubtype {
+        subtype: ASN1Type,
+        /// Whether an extension marker follows the type.
+        extensible: bool,
+    },
+    /// A value range (X.680 51.4).
+    ValueRange {
+        /// The lower end; None is MIN.
+        min: Option<ASN1Value>,
+        /// The upper end; None is MAX.
+        max: Option<ASN1Value>,
+        /// Whether `<` leaves out the lower end.
+        min_open: bool,
+        /// Whether `<` leaves out the upper end.
+        max_open: bool,
+        /// Whether an extension marker follows the range.
+        extensible: bool,
+    },
+    /// The characters of a string, after FROM (X.680 51.7).
+    PermittedAlphabet(Box<ElementOrSetOperation>),
+    /// The length, after SIZE (X.680 51.5).
+    SizeConstraint(Box<ElementOrSetOperation>),
+    /// A type (X.680 51.6).
+    TypeConstraint(ASN1Type),
+    /// The elements of a list, after WITH COMPONENT (X.680 51.8.5).
+    SingleTypeConstraint(List<Constraint>),
+    /// The components of a type, after WITH COMPONENTS (X.680 51.8.6).
+    MultipleTypeConstraints(InnerTypeConstraint),
+    /// A pattern (X.680 51.9).
+    PatternConstraint(PatternConstraint),
+    /// What the notation does not tell (X.682 9.1).
+    UserDefinedConstraint(UserDefinedConstraint),
+    /// Settings of a time type (X.680 51.10).
+    PropertySettings(PropertySettings),
 }
 
 /// An element set specification (X.680 50.1).
@@ -21,27 +202,21 @@ pub struct ElementSetOver<O> {
 /// An element set over the elements of this notation.
 pub type ElementSet = ElementSetOver<ElementOrSetOperation>;
 
-/// One element, or elements joined by set operators.
+/// One element, or elements joined by set operators (X.680 50.1).
+#[cycle(tree)]
 #[derive(Drop)]
 pub enum ElementOrSetOperation {
     /// One element.
     Element(SubtypeElement),
+    /// Elements joined by set operators.
+    SetOperation(SetOperation),
 }
 
-/// A subtype element (X.680 51.1).
+/// An element, an operator, and what stands behind it; operators group to the right (X.680 50.1).
+#[cycle(tree)]
 #[derive(Drop)]
-pub enum SubtypeElement {
-    /// A value range (X.680 51.4).
-    ValueRange {
-        /// The lower end; None is MIN.
-        min: Option<ASN1Value>,
-        /// The upper end; None is MAX.
-        max: Option<ASN1Value>,
-        /// Whether `<` leaves out the lower end.
-        min_open: bool,
-        /// Whether `<` leaves out the upper end.
-        max_open: bool,
-        /// Whether an extension marker follows the range.
-        extensible: bool,
-    },
+pub struct SetOperation {
+    pub base: SubtypeElement,
+    pub operator: SetOperator,
+    pub operant: Box<ElementOrSetOperation>,
 }

@@ -4,7 +4,9 @@ ghost use Rattle.asn_tree.specs.Calls.{index_of, name_of, numbered};
 ghost use Rattle.std.specs.Prelude.{◌≡◌};
 
 use crate::headers::{AsnTag, ModuleReference};
+use crate::objects::{ASN1Information, ClassLink};
 use crate::types::ASN1Type;
+use crate::values::ASN1Value;
 use asn_memory::{List, Text};
 
 /// The modules of a text in order, each with its definitions in order.
@@ -15,6 +17,10 @@ pub type Reading = List<(ModuleReference, List<ToplevelDefinition>)>;
 pub enum ToplevelDefinition {
     /// A type assignment (X.680 16.1).
     TypeDef(ToplevelTypeDefinition),
+    /// A value assignment (X.680 16.2).
+    Value(ToplevelValueDefinition),
+    /// An assignment of a class, an object or an object set (X.681 9.1, 11.1, 12.1).
+    Information(ToplevelInformationDefinition),
 }
 
 impl ToplevelDefinition {
@@ -24,6 +30,8 @@ impl ToplevelDefinition {
     {
         match self {
             ToplevelDefinition::TypeDef(definition) => &definition.name,
+            ToplevelDefinition::Value(definition) => &definition.name,
+            ToplevelDefinition::Information(definition) => &definition.name,
         }
     }
 
@@ -33,6 +41,8 @@ impl ToplevelDefinition {
     {
         match self {
             ToplevelDefinition::TypeDef(definition) => definition.index,
+            ToplevelDefinition::Value(definition) => definition.index,
+            ToplevelDefinition::Information(definition) => definition.index,
         }
     }
 
@@ -42,6 +52,8 @@ impl ToplevelDefinition {
     {
         match self {
             ToplevelDefinition::TypeDef(definition) => definition.index = Some((module, item)),
+            ToplevelDefinition::Value(definition) => definition.index = Some((module, item)),
+            ToplevelDefinition::Information(definition) => definition.index = Some((module, item)),
         }
     }
 }
@@ -55,6 +67,34 @@ pub struct ToplevelTypeDefinition {
     pub name: Text,
     pub ty: ASN1Type,
     pub parameterization: Option<Parameterization>,
+    /// The number of its module and its number in that module, both from 0; None until it is linked.
+    pub index: Option<(usize, usize)>,
+}
+
+/// A value definition.
+#[derive(Drop)]
+pub struct ToplevelValueDefinition {
+    /// The comments before it, joined by line feeds.
+    pub comments: Text,
+    pub name: Text,
+    /// The type before the assignment.
+    pub associated_type: ASN1Type,
+    pub parameterization: Option<Parameterization>,
+    pub value: ASN1Value,
+    /// The number of its module and its number in that module, both from 0; None until it is linked.
+    pub index: Option<(usize, usize)>,
+}
+
+/// The definition of a class, an object or an object set.
+#[derive(Drop)]
+pub struct ToplevelInformationDefinition {
+    /// The comments before it, joined by line feeds.
+    pub comments: Text,
+    pub name: Text,
+    pub parameterization: Option<Parameterization>,
+    /// The class of an object or an object set; None for a class.
+    pub class: Option<ClassLink>,
+    pub value: ASN1Information,
     /// The number of its module and its number in that module, both from 0; None until it is linked.
     pub index: Option<(usize, usize)>,
 }
@@ -75,7 +115,10 @@ pub struct ParameterizationArgument {
 /// What governs a dummy reference (X.683 8.1).
 #[derive(Drop)]
 pub enum ParameterGovernor {
+    /// Nothing: the dummy stands for a type or a class.
     None,
+    /// A type, whose values the dummy stands for; or a class.
     TypeOrClass(ASN1Type),
+    /// A class.
     Class(Text),
 }

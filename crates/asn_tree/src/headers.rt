@@ -7,7 +7,7 @@ use asn_memory::{List, Text};
 use std::ops::Add;
 
 /// The header of a module (X.680 13.1).
-#[derive(Drop)]
+#[derive(Drop, PartialEq, Eq)]
 pub struct ModuleReference {
     pub name: Text,
     pub module_identifier: Option<DefinitiveIdentifier>,
@@ -21,7 +21,7 @@ pub struct ModuleReference {
 }
 
 /// The object identifier that names a module (X.680 13.1).
-#[derive(Drop)]
+#[derive(Drop, PartialEq, Eq)]
 pub enum DefinitiveIdentifier {
     DefinitiveOID(ObjectIdentifierValue),
     DefinitiveOIDandIRI {
@@ -31,13 +31,14 @@ pub enum DefinitiveIdentifier {
 }
 
 /// The encoding reference of a module (X.680 13.1).
-#[derive(Drop)]
+#[derive(Drop, PartialEq, Eq)]
 pub struct EncodingReferenceDefault(pub Text);
 
 /// How the tags of a module are read (X.680 13).
-#[derive(Clone, Copy, Debug, PartialEq, Eq)]
+#[derive(Clone, Copy, Debug, Default, PartialEq, Eq)]
 pub enum TaggingEnvironment {
     Automatic,
+    #[default]
     Implicit,
     Explicit,
 }
@@ -58,14 +59,15 @@ impl Add for &TaggingEnvironment {
 }
 
 /// Whether a module implies extension markers (X.680 13).
-#[derive(Clone, Copy, Debug, PartialEq, Eq)]
+#[derive(Clone, Copy, Debug, Default, PartialEq, Eq)]
 pub enum ExtensibilityEnvironment {
     Implied,
+    #[default]
     Explicit,
 }
 
 /// Symbols imported from one module (X.680 13.1).
-#[derive(Drop)]
+#[derive(Drop, PartialEq, Eq)]
 pub struct Import {
     /// The imported names in order.
     pub types: List<Text>,
@@ -81,14 +83,14 @@ pub enum With {
 }
 
 /// The module that an import names (X.680 13.1).
-#[derive(Drop)]
+#[derive(Drop, PartialEq, Eq)]
 pub struct GlobalModuleReference {
     pub module_reference: Text,
     pub assigned_identifier: AssignedIdentifier,
 }
 
 /// The identifier assigned to an imported module (X.680 13.1).
-#[derive(Drop)]
+#[derive(Drop, PartialEq, Eq)]
 pub enum AssignedIdentifier {
     ObjectIdentifierValue(ObjectIdentifierValue),
     ExternalValueReference(ExternalValueReference),
@@ -101,14 +103,14 @@ pub enum AssignedIdentifier {
 }
 
 /// A value reference with its module's name (X.680 14.1).
-#[derive(Drop)]
+#[derive(Drop, PartialEq, Eq)]
 pub struct ExternalValueReference {
     pub module_reference: Text,
     pub value_reference: Text,
 }
 
 /// What a module exports (X.680 13.1).
-#[derive(Drop)]
+#[derive(Drop, PartialEq, Eq)]
 pub enum Exports {
     /// These names.
     Identifier(List<Text>),
@@ -116,11 +118,11 @@ pub enum Exports {
 }
 
 /// An object identifier value (X.680 32.3).
-#[derive(Drop)]
+#[derive(Drop, PartialEq, Eq)]
 pub struct ObjectIdentifierValue(pub List<ObjectIdentifierArc>);
 
 /// An arc of an object identifier: a name, a number, or both (X.680 32.3).
-#[derive(Drop)]
+#[derive(Drop, PartialEq, Eq)]
 pub struct ObjectIdentifierArc {
     pub name: Option<Text>,
     pub number: Option<u128>,

@@ -1,45 +1,151 @@
 //! The trees of ASN.1 modules: plain data, which knows nothing of texts' bytes or of names' meaning.
 //!
-//! One module for each family of the grammar: headers, definitions, types, constraints, values. The structs have
-//! all the fields that the notation needs; the enums have the variants that are read so far. A struct that stands
-//! beside the types that lead back to themselves is generic in what it holds and is used by its alias, so that it
-//! stays out of the cycle of types, which is what a check of these trees costs.
+//! One module for each family of the grammar: headers, definitions, types, values, constraints, objects, and the
+//! settings of the time types; `plain` has what holds no tree, `errors` what warnings and refusals name. Seventeen types
+//! lead back to each other, and what a check of these trees costs is that cycle: so a struct that stands beside it with
+//! one way back is generic in what it holds, and is used by its alias.
 #![tactic(auto)]
 
 mod constraints;
 mod definitions;
 mod errors;
 mod headers;
+mod making;
+mod objects;
 mod plain;
 mod settings;
 mod types;
 mod values;
 
-pub use constraints::{
-    Constraint, ElementOrSetOperation, ElementSet, ElementSetOver, SubtypeElement,
-};
-pub use definitions::{
-    ParameterGovernor, Parameterization, ParameterizationArgument, Reading, ToplevelDefinition,
-    ToplevelTypeDefinition,
-};
-pub use errors::{GrammarError, GrammarErrorType, LinkFault, LinkerError, LinkerErrorType};
-pub use headers::{
-    AsnTag, AssignedIdentifier, DefinitiveIdentifier, EncodingReferenceDefault, Exports,
-    ExtensibilityEnvironment, ExternalValueReference, GlobalModuleReference, Import,
-    ModuleReference, ObjectIdentifierArc, ObjectIdentifierValue, TagClass, TaggingEnvironment,
-    With,
-};
-pub use plain::{
-    CharacterStringType, INTERNAL_IO_FIELD_REF_TYPE_NAME_PREFIX, INTERNAL_NESTED_TYPE_NAME_PREFIX,
-    IntegerType, NUMERIC_STRING_CHARSET, PRINTABLE_STRING_CHARSET, RealValue,
-};
-pub use settings::{
-    BasicSettings, DateSettings, IntervalTypeSettings, LocalOrUtcSettings, MidnightSettings,
-    PropertyAndSettingsPair, PropertySetting, PropertySettings, RecurrenceSettings, SettingError,
-    StartEndPointSettings, TimeSettings, YearSettings, equal_settings,
-};
-pub use types::{
-    ASN1Type, Boolean, BooleanOver, DeclarationElsewhere, DeclarationElsewhereOver,
-    DistinguishedValue, Integer, IntegerOver, SequenceOrSet, SequenceOrSetMember,
-};
+pub use constraints::ComponentPresence;
+pub use constraints::CompositeConstraint;
+pub use constraints::ConstrainedComponent;
+pub use constraints::ConstrainedComponentOver;
+pub use constraints::Constraint;
+pub use constraints::ContentConstraint;
+pub use constraints::ElementOrSetOperation;
+pub use constraints::ElementSet;
+pub use constraints::ElementSetOver;
+pub use constraints::InnerTypeConstraint;
+pub use constraints::InnerTypeConstraintOver;
+pub use constraints::Parameter;
+pub use constraints::PatternConstraint;
+pub use constraints::RelationalConstraint;
+pub use constraints::SetOperation;
+pub use constraints::SetOperator;
+pub use constraints::SubtypeElement;
+pub use constraints::TableConstraint;
+pub use constraints::TableConstraintOver;
+pub use constraints::UserDefinedConstraint;
+pub use constraints::ValueConstraint;
+pub use definitions::ParameterGovernor;
+pub use definitions::Parameterization;
+pub use definitions::ParameterizationArgument;
+pub use definitions::Reading;
+pub use definitions::ToplevelDefinition;
+pub use definitions::ToplevelInformationDefinition;
+pub use definitions::ToplevelTypeDefinition;
+pub use definitions::ToplevelValueDefinition;
+pub use errors::GrammarError;
+pub use errors::GrammarErrorType;
+pub use errors::LinkFault;
+pub use errors::LinkerError;
+pub use errors::LinkerErrorType;
+pub use headers::AsnTag;
+pub use headers::AssignedIdentifier;
+pub use headers::DefinitiveIdentifier;
+pub use headers::EncodingReferenceDefault;
+pub use headers::Exports;
+pub use headers::ExtensibilityEnvironment;
+pub use headers::ExternalValueReference;
+pub use headers::GlobalModuleReference;
+pub use headers::Import;
+pub use headers::ModuleReference;
+pub use headers::ObjectIdentifierArc;
+pub use headers::ObjectIdentifierValue;
+pub use headers::TagClass;
+pub use headers::TaggingEnvironment;
+pub use headers::With;
+pub use objects::ASN1Information;
+pub use objects::ClassLink;
+pub use objects::FixedValueField;
+pub use objects::FixedValueFieldOver;
+pub use objects::InformationObject;
+pub use objects::InformationObjectClass;
+pub use objects::InformationObjectClassField;
+pub use objects::InformationObjectField;
+pub use objects::InformationObjectFieldReference;
+pub use objects::InformationObjectFieldReferenceOver;
+pub use objects::InformationObjectFields;
+pub use objects::InformationObjectSyntax;
+pub use objects::ObjectFieldIdentifier;
+pub use objects::ObjectSet;
+pub use objects::ObjectSetField;
+pub use objects::ObjectSetFieldOver;
+pub use objects::ObjectSetOver;
+pub use objects::ObjectSetValue;
+pub use objects::ObjectSetValueOver;
+pub use objects::SyntaxApplication;
+pub use objects::SyntaxExpression;
+pub use objects::SyntaxToken;
+pub use objects::TypeField;
+pub use objects::TypeFieldOver;
+pub use plain::CharacterStringType;
+pub use plain::INTERNAL_IO_FIELD_REF_TYPE_NAME_PREFIX;
+pub use plain::INTERNAL_NESTED_TYPE_NAME_PREFIX;
+pub use plain::IntegerType;
+pub use plain::NUMERIC_STRING_CHARSET;
+pub use plain::PRINTABLE_STRING_CHARSET;
+pub use plain::RealValue;
+pub use settings::BasicSettings;
+pub use settings::DateSettings;
+pub use settings::IntervalTypeSettings;
+pub use settings::LocalOrUtcSettings;
+pub use settings::MidnightSettings;
+pub use settings::PropertyAndSettingsPair;
+pub use settings::PropertySetting;
+pub use settings::PropertySettings;
+pub use settings::RecurrenceSettings;
+pub use settings::SettingError;
+pub use settings::StartEndPointSettings;
+pub use settings::TimeSettings;
+pub use settings::YearSettings;
+pub use settings::equal_settings;
+pub use types::ASN1Type;
+pub use types::BitString;
+pub use types::BitStringOver;
+pub use types::Boolean;
+pub use types::BooleanOver;
+pub use types::CharacterString;
+pub use types::CharacterStringOver;
+pub use types::Choice;
+pub use types::ChoiceOption;
+pub use types::ChoiceSelectionType;
+pub use types::DeclarationElsewhere;
+pub use types::DeclarationElsewhereOver;
+pub use types::DistinguishedValue;
+pub use types::Enumeral;
+pub use types::Enumerated;
+pub use types::EnumeratedOver;
+pub use types::GeneralizedTime;
+pub use types::GeneralizedTimeOver;
+pub use types::Integer;
+pub use types::IntegerOver;
+pub use types::ObjectIdentifier;
+pub use types::ObjectIdentifierOver;
+pub use types::OctetString;
+pub use types::OctetStringOver;
+pub use types::Real;
+pub use types::RealOver;
+pub use types::SequenceComponent;
+pub use types::SequenceOrSet;
+pub use types::SequenceOrSetMember;
+pub use types::SequenceOrSetOf;
+pub use types::Time;
+pub use types::TimeOver;
+pub use types::UTCTime;
+pub use types::UTCTimeOver;
 pub use values::ASN1Value;
+pub use values::LinkedField;
+pub use values::StructLikeFieldValue;
+pub use values::StructLikeFieldValueOver;

@@ -2,21 +2,59 @@
 
 use crate::constraints::Constraint;
 use crate::headers::AsnTag;
+use crate::objects::InformationObjectFieldReference;
+use crate::plain::CharacterStringType;
 use crate::values::ASN1Value;
-use asn_memory::{List, Text};
+use asn_memory::{Box, List, Text};
 
 /// A type.
 #[cycle(tree)]
 #[derive(Drop)]
 pub enum ASN1Type {
+    /// NULL (X.680 24.1).
+    Null,
     /// BOOLEAN (X.680 18.1).
     Boolean(Boolean),
     /// INTEGER (X.680 19.1).
     Integer(Integer),
+    /// REAL (X.680 21.1).
+    Real(Real),
+    /// BIT STRING (X.680 22.1).
+    BitString(BitString),
+    /// OCTET STRING (X.680 23.1).
+    OctetString(OctetString),
+    /// A character string type (X.680 41.1).
+    CharacterString(CharacterString),
+    /// ENUMERATED (X.680 20.1).
+    Enumerated(Enumerated),
+    /// CHOICE (X.680 29.1).
+    Choice(Choice),
     /// SEQUENCE (X.680 25.1).
     Sequence(SequenceOrSet),
+    /// SEQUENCE OF (X.680 26.1).
+    SequenceOf(SequenceOrSetOf),
+    /// SET (X.680 27.1).
+    Set(SequenceOrSet),
+    /// SET OF (X.680 28.1).
+    SetOf(SequenceOrSetOf),
+    /// TIME (X.680 38.1).
+    Time(Time),
+    /// GeneralizedTime (X.680 46.1).
+    GeneralizedTime(GeneralizedTime),
+    /// UTCTime (X.680 47.1).
+    UTCTime(UTCTime),
     /// A type reference (X.680 14.1).
     ElsewhereDeclaredType(DeclarationElsewhere),
+    /// A selection type (X.680 30.1).
+    ChoiceSelectionType(ChoiceSelectionType),
+    /// OBJECT IDENTIFIER (X.680 32.1).
+    ObjectIdentifier(ObjectIdentifier),
+    /// The type of a class's field (X.681 14.1).
+    InformationObjectFieldReference(InformationObjectFieldReference),
+    /// EMBEDDED PDV (X.680 36.1).
+    EmbeddedPdv,
+    /// EXTERNAL (X.680 37.1).
+    External,
 }
 
 /// BOOLEAN with its constraints.
@@ -39,12 +77,94 @@ pub struct IntegerOver<C> {
 /// INTEGER over the constraints of this notation.
 pub type Integer = IntegerOver<Constraint>;
 
-/// A named number (X.680 19.1) or a named bit (X.680 22.1).
+/// REAL with its constraints.
 #[derive(Drop)]
-pub struct DistinguishedValue {
-    pub name: Text,
-    pub value: i128,
+pub struct RealOver<C> {
+    pub constraints: List<C>,
 }
+
+/// REAL over the constraints of this notation.
+pub type Real = RealOver<Constraint>;
+
+/// GeneralizedTime with its constraints.
+#[derive(Drop)]
+pub struct GeneralizedTimeOver<C> {
+    pub constraints: List<C>,
+}
+
+/// GeneralizedTime over the constraints of this notation.
+pub type GeneralizedTime = GeneralizedTimeOver<Constraint>;
+
+/// UTCTime with its constraints.
+#[derive(Drop)]
+pub struct UTCTimeOver<C> {
+    pub constraints: List<C>,
+}
+
+/// UTCTime over the constraints of this notation.
+pub type UTCTime = UTCTimeOver<Constraint>;
+
+/// OCTET STRING with its constraints.
+#[derive(Drop)]
+pub struct OctetStringOver<C> {
+    pub constraints: List<C>,
+}
+
+/// OCTET STRING over the constraints of this notation.
+pub type OctetString = OctetStringOver<Constraint>;
+
+/// BIT STRING with its constraints.
+#[derive(Drop)]
+pub struct BitStringOver<C> {
+    pub constraints: List<C>,
+    /// The named bits, where braces stand (X.680 22.1).
+    pub distinguished_values: Option<List<DistinguishedValue>>,
+}
+
+/// BIT STRING over the constraints of this notation.
+pub type BitString = BitStringOver<Constraint>;
+
+/// OBJECT IDENTIFIER with its constraints.
+#[derive(Drop)]
+pub struct ObjectIdentifierOver<C> {
+    pub constraints: List<C>,
+}
+
+/// OBJECT IDENTIFIER over the constraints of this notation.
+pub type ObjectIdentifier = ObjectIdentifierOver<Constraint>;
+
+/// TIME with its constraints.
+#[derive(Drop)]
+pub struct TimeOver<C> {
+    pub constraints: List<C>,
+}
+
+/// TIME over the constraints of this notation.
+pub type Time = TimeOver<Constraint>;
+
+/// A character string type with its constraints.
+#[derive(Drop)]
+pub struct CharacterStringOver<C> {
+    pub constraints: List<C>,
+    /// Which of them.
+    pub ty: CharacterStringType,
+}
+
+/// A character string type over the constraints of this notation.
+pub type CharacterString = CharacterStringOver<Constraint>;
+
+/// ENUMERATED with its constraints.
+#[derive(Drop)]
+pub struct EnumeratedOver<C> {
+    /// The items in order.
+    pub members: List<Enumeral>,
+    /// How many items stand before the extension marker, where there is one.
+    pub extensible: Option<usize>,
+    pub constraints: List<C>,
+}
+
+/// ENUMERATED over the constraints of this notation.
+pub type Enumerated = EnumeratedOver<Constraint>;
 
 /// A type reference with the constraints written after it.
 #[derive(Drop)]
@@ -58,6 +178,17 @@ pub struct DeclarationElsewhereOver<C> {
 
 /// A type reference over the constraints of this notation.
 pub type DeclarationElsewhere = DeclarationElsewhereOver<Constraint>;
+
+/// SEQUENCE OF or SET OF (X.680 26.1, 28.1).
+#[cycle(tree)]
+#[derive(Drop)]
+pub struct SequenceOrSetOf {
+    pub constraints: List<Constraint>,
+    /// The type of its elements.
+    pub element_type: Box<ASN1Type>,
+    /// Whether the element's type leads back to the list.
+    pub is_recursive: bool,
+}
 
 /// SEQUENCE or SET (X.680 25.1, 27.1).
 #[cycle(tree)]
@@ -74,6 +205,14 @@ pub struct SequenceOrSet {
     pub members: List<SequenceOrSetMember>,
 }
 
+/// A component of a SEQUENCE or SET as it is written (X.680 25.1).
+#[derive(Drop)]
+pub enum SequenceComponent {
+    Member(SequenceOrSetMember),
+    /// The name after `COMPONENTS OF`.
+    ComponentsOf(Text),
+}
+
 /// A member of a SEQUENCE or SET (X.680 25.1).
 #[cycle(tree)]
 #[derive(Drop)]
@@ -88,4 +227,54 @@ pub struct SequenceOrSetMember {
     pub is_recursive: bool,
     /// The constraints written after the member's type, where they are the member's own.
     pub constraints: List<Constraint>,
+}
+
+/// CHOICE (X.680 29.1).
+#[cycle(tree)]
+#[derive(Drop)]
+pub struct Choice {
+    /// How many options stand before the extension marker, where there is one.
+    pub extensible: Option<usize>,
+    /// The options in order.
+    pub options: List<ChoiceOption>,
+    pub constraints: List<Constraint>,
+}
+
+/// An option of a CHOICE (X.680 29.1).
+#[cycle(tree)]
+#[derive(Drop)]
+pub struct ChoiceOption {
+    pub name: Text,
+    pub tag: Option<AsnTag>,
+    pub ty: ASN1Type,
+    /// The constraints written after the option's type, where they are the option's own.
+    pub constraints: List<Constraint>,
+    /// Whether the option's type leads back to the CHOICE.
+    pub is_recursive: bool,
+}
+
+/// An item of an ENUMERATED (X.680 20.1).
+#[derive(Drop, PartialEq, Eq)]
+pub struct Enumeral {
+    pub name: Text,
+    /// The comment after it.
+    pub description: Option<Text>,
+    /// Its number.
+    pub index: i128,
+}
+
+/// A named number (X.680 19.1) or a named bit (X.680 22.1).
+#[derive(Drop, PartialEq, Eq)]
+pub struct DistinguishedValue {
+    pub name: Text,
+    pub value: i128,
+}
+
+/// A selection type: an option of a CHOICE that a name stands for (X.680 30.1).
+#[derive(Drop, PartialEq, Eq)]
+pub struct ChoiceSelectionType {
+    /// The name of the CHOICE.
+    pub choice_name: Text,
+    /// The name of the option.
+    pub selected_option: Text,
 }

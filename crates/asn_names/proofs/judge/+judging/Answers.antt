@@ -5,7 +5,7 @@ use Rattle.asn_names.specs.Judge.{fields_at, judge, known_fields, member_at, mem
 use Rattle.asn_names.specs.Scopes.{Empty}
 use Rattle.asn_names.specs.Trees.{shown, shown_fields}
 use Rattle.asn_names.specs.ValueTrees.{field_named}
-use Rattle.asn_names.proofs.Judging.{both_are, boolean_type, integer_type, reference_type, struct_type, with_constraints}
+use Rattle.asn_names.proofs.Judging.{both_are, boolean_type, integer_type, other_type, reference_type, struct_type, with_constraints}
 use Rattle.asn_names.proofs.Passing.{members_next}
 use Rattle.asn_names.proofs.Shown.{struct_shown}
 use Rattle.asn_names.proofs.judge.+judging.Goals as goal
@@ -68,3 +68,8 @@ judge_type-returns-in-ElsewhereDeclaredType t c =
     let some : 0 < c.args.steps = omega arith in
     with_constraints (judge defs (c.args.steps - 1)) tree _ _ c.and-in-ElsewhereDeclaredType.result _ _ _ c.and-in-ElsewhereDeclaredType.ensures c.judge_reference.ensures (c.judge_constraints-in-ElsewhereDeclaredType.ensures defs) c.as_slice-in-ElsewhereDeclaredType.ensures
     ∙ sym (reference_type defs c.args.steps some tree c.args.ty.now c.in-ElsewhereDeclaredType.reference c.in-ElsewhereDeclaredType.is)
+
+pub judge_type-returns-in_default : goal.judge_type-returns-in_default
+judge_type-returns-in_default t c =
+    let some : 0 < c.args.steps = omega arith in
+    sym (other_type c.args.names.now.definitions.now c.args.steps some (shown c.args.tree.now) c.args.ty.now c.in_default.not-Boolean c.in_default.not-Integer c.in_default.not-Sequence c.in_default.not-ElsewhereDeclaredType)

@@ -3,26 +3,23 @@ use Rattle.std.specs.Prelude.{is_none, ◌||◌}
 use Rattle.std.specs.List.{list_any}
 use Rattle.asn_tree.specs.declared.types.SequenceOrSetMember.{out-SequenceOrSetMember}
 use Rattle.asn_names.specs.Faults.{is_missing}
-use Rattle.asn_names.specs.Definitions.{see}
+use Rattle.asn_names.specs.Definitions.{type_named}
 use Rattle.asn_names.specs.Occurrences.{members_names, names_in}
-use Rattle.asn_names.proofs.Occurrences.{boolean_any, integer_any, sequence_any, reference_any, member_any, none_copied}
+use Rattle.asn_names.proofs.Occurrences.{other_any, sequence_any, reference_any, member_any, none_copied}
 use Rattle.asn_names.proofs.names.Names.+missing.Goals as goal
 
-pub is_missing_in-returns-in-Boolean : goal.is_missing_in-returns-in-Boolean
-is_missing_in-returns-in-Boolean t c = sym (boolean_any (is_missing c.args.self.now.definitions.now) c.args.ty.now c.in-Boolean.is)
-
-pub is_missing_in-returns-in-Integer : goal.is_missing_in-returns-in-Integer
-is_missing_in-returns-in-Integer t c = sym (integer_any (is_missing c.args.self.now.definitions.now) c.args.ty.now c.in-Integer.is)
+pub is_missing_in-returns-in_default : goal.is_missing_in-returns-in_default
+is_missing_in-returns-in_default t c = sym (other_any (is_missing c.args.self.now.definitions.now) c.args.ty.now c.in_default.not-Sequence c.in_default.not-ElsewhereDeclaredType)
 
 pub is_missing_in-returns-in-Sequence : goal.is_missing_in-returns-in-Sequence
 is_missing_in-returns-in-Sequence t c = c.is_missing_in_members.ensures ∙ sym (sequence_any (is_missing c.args.self.now.definitions.now) c.args.ty.now _ c.in-Sequence.is)
 
 pub is_missing_in-returns-in-ElsewhereDeclaredType : goal.is_missing_in-returns-in-ElsewhereDeclaredType
 is_missing_in-returns-in-ElsewhereDeclaredType t c =
-    let seen = c.see.ensures ∙ ap (λ n. see c.args.self.now.definitions.now n) c.as_str.ensures in
-    none_copied c.see.result c.is_none.result c.is_none.ensures
+    let seen = c.type_named.ensures ∙ ap (λ n. type_named c.args.self.now.definitions.now n) c.as_str.ensures in
+    none_copied c.type_named.result c.is_none.result c.is_none.ensures
     ∙ ap is_none seen
-    ∙ sym (reference_any (is_missing c.args.self.now.definitions.now) c.args.ty.now c.in-ElsewhereDeclaredType.is)
+    ∙ sym (reference_any (is_missing c.args.self.now.definitions.now) c.args.ty.now _ c.in-ElsewhereDeclaredType.is)
 
 pub is_missing_in_members-returns-then-is_missing_in : goal.is_missing_in_members-returns-then-is_missing_in
 is_missing_in_members-returns-then-is_missing_in t c =

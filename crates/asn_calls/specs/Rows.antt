@@ -1,0 +1,8 @@
+-- Types that a `&mut` lends, as the logic names them, for the clauses on what is written back.
+use denote.RattleType.{RattleType}
+use Rattle.asn_memory.specs.contracts.list.List as list
+use Rattle.asn_tree.specs.contracts.constraints.Constraint as constraint
+
+-- a list of constraints
+abbrev pub constraints_row : RattleType
+constraints_row = list.the_row constraint.the_row

@@ -1,0 +1,478 @@
+//! Copies of classes, objects and object sets.
+
+ghost use Rattle.std.specs.Prelude.{◌≡◌, IfOk};
+
+use crate::constraints::copy_constraints;
+use crate::headers::{copy_optional_text, copy_text};
+use crate::lists::{CopyTree, copy_list};
+use crate::parts::both;
+use crate::types::copy_asn1_type;
+use crate::values::{copy_asn1_value, copy_optional_value};
+use asn_memory::{List, Mem};
+use asn_tree::{
+    ASN1Information, ASN1Type, ClassLink, DeclarationElsewhere, FixedValueField, InformationObject,
+    InformationObjectClass, InformationObjectClassField, InformationObjectField,
+    InformationObjectFieldReference, InformationObjectFields, InformationObjectSyntax,
+    ObjectFieldIdentifier, ObjectSet, ObjectSetField, ObjectSetValue, SyntaxApplication,
+    SyntaxExpression, SyntaxToken, TypeField,
+};
+use std::alloc::Global;
+
+/// A copy of the name of a field.
+///
+/// Err: want of memory.
+pub fn copy_object_field_identifier(
+    alloc: Global,
+    value: &ObjectFieldIdentifier,
+) -> Mem<ObjectFieldIdentifier>
+    ensures { IfOk result (λ copy. copy ≡ value.now) }
+{
+    match value {
+        ObjectFieldIdentifier::SingleValue(name) => {
+            Ok(ObjectFieldIdentifier::SingleValue(copy_text(alloc, name)?))
+        }
+        ObjectFieldIdentifier::MultipleValue(name) => {
+            Ok(ObjectFieldIdentifier::MultipleValue(copy_text(alloc, name)?))
+        }
+    }
+}
+
+impl CopyTree for ObjectFieldIdentifier {
+    fn copy_tree(&self, alloc: Global) -> Mem<ObjectFieldIdentifier> {
+        copy_object_field_identifier(alloc, self)
+    }
+}
+
+/// A copy of how an object gives its fields.
+///
+/// Err: want of memory.
+#[cycle(copying)]
+pub fn copy_information_object_fields(
+    alloc: Global,
+    value: &InformationObjectFields,
+) -> Mem<InformationObjectFields>
+    ensures { IfOk result (λ copy. copy ≡ value.now) }
+{
+    match value {
+        InformationObjectFields::DefaultSyntax(fields) => Ok(InformationObjectFields::DefaultSyntax(
+            copy_object_fields(alloc, fields)?,
+        )),
+        InformationObjectFields::CustomSyntax(items) => Ok(InformationObjectFields::CustomSyntax(
+            copy_syntax_applications(alloc, items)?,
+        )),
+    }
+}
+
+#[cycle(copying)]
+fn copy_object_fields(
+    alloc: Global,
+    fields: &List<InformationObjectField>,
+) -> Mem<List<InformationObjectField>>
+    ensures { IfOk result (λ copy. copy ≡ fields.now) }
+{
+    let mut copies = List::new(alloc);
+    for field in fields.as_slice() {
+        copies.add(copy_information_object_field(alloc, field)?)?;
+    }
+    Ok(copies)
+}
+
+#[cycle(copying)]
+fn copy_syntax_applications(
+    alloc: Global,
+    items: &List<SyntaxApplication>,
+) -> Mem<List<SyntaxApplication>>
+    ensures { IfOk result (λ copy. copy ≡ items.now) }
+{
+    let mut copies = List::new(alloc);
+    for item in items.as_slice() {
+        copies.add(copy_syntax_application(alloc, item)?)?;
+    }
+    Ok(copies)
+}
+
+/// A copy of a field that an object gives.
+///
+/// Err: want of memory.
+#[cycle(copying)]
+pub fn copy_information_object_field(
+    alloc: Global,
+    value: &InformationObjectField,
+) -> Mem<InformationObjectField>
+    ensures { IfOk result (λ copy. copy ≡ value.now) }
+{
+    match value {
+        InformationObjectField::TypeField(field) => {
+            let (identifier, ty) = both(
+                copy_text(alloc, &field.identifier),
+                copy_asn1_type(alloc, &field.ty),
+            )?;
+            Ok(InformationObjectField::TypeField(TypeField { identifier, ty }))
+        }
+        InformationObjectField::FixedValueField(field) => {
+            let (identifier, value) = both(
+                copy_text(alloc, &field.identifier),
+                copy_asn1_value(alloc, &field.value),
+            )?;
+            Ok(InformationObjectField::FixedValueField(FixedValueField { identifier, value }))
+        }
+        InformationObjectField::ObjectSetField(field) => {
+            let (identifier, values) = both(
+                copy_text(alloc, &field.identifier),
+                copy_object_set_values(alloc, &field.value.values),
+            )?;
+            Ok(InformationObjectField::ObjectSetField(ObjectSetField {
+                identifier,
+                value: ObjectSet {
+                    values,
+                    extensible: field.value.extensible,
+                },
+            }))
+        }
+    }
+}
+
+impl CopyTree for InformationObjectField {
+    fn copy_tree(&self, alloc: Global) -> Mem<InformationObjectField> {
+        copy_information_object_field(alloc, self)
+    }
+}
+
+/// A copy of an item of an object in its class's own syntax.
+///
+/// Err: want of memory.
+#[cycle(copying)]
+pub fn copy_syntax_application(alloc: Global, value: &SyntaxApplication) -> Mem<SyntaxApplication>
+    ensures { IfOk result (λ copy. copy ≡ value.now) }
+{
+    match value {
+        SyntaxApplication::ObjectSetDeclaration(set) => {
+            Ok(SyntaxApplication::ObjectSetDeclaration(ObjectSet {
+                values: copy_object_set_values(alloc, &set.values)?,
+                extensible: set.extensible,
+            }))
+        }
+        SyntaxApplication::ValueReference(value) => Ok(SyntaxApplication::ValueReference(
+            copy_asn1_value(alloc, value)?,
+        )),
+        SyntaxApplication::TypeReference(ty) => {
+            Ok(SyntaxApplication::TypeReference(copy_asn1_type(alloc, ty)?))
+        }
+        SyntaxApplication::Comma => Ok(SyntaxApplication::Comma),
+        SyntaxApplication::Literal(word) => {
+            Ok(SyntaxApplication::Literal(copy_text(alloc, word)?))
+        }
+        SyntaxApplication::LiteralOrTypeReference(reference) => {
+            let ((parent, identifier), constraints) = both(
+                both(
+                    copy_optional_text(alloc, &reference.parent),
+                    copy_text(alloc, &reference.identifier),
+                ),
+                copy_constraints(alloc, &reference.constraints),
+            )?;
+            Ok(SyntaxApplication::LiteralOrTypeReference(DeclarationElsewhere {
+                parent,
+                identifier,
+                constraints,
+            }))
+        }
+    }
+}
+
+impl CopyTree for SyntaxApplication {
+    fn copy_tree(&self, alloc: Global) -> Mem<SyntaxApplication> {
+        copy_syntax_application(alloc, self)
+    }
+}
+
+/// A copy of the items of an object set in their order.
+#[cycle(copying)]
+pub(crate) fn copy_object_set_values(
+    alloc: Global,
+    items: &List<ObjectSetValue>,
+) -> Mem<List<ObjectSetValue>>
+    ensures { IfOk result (λ copy. copy ≡ items.now) }
+{
+    let mut copies = List::new(alloc);
+    for item in items.as_slice() {
+        copies.add(match item {
+            ObjectSetValue::Reference(name) => ObjectSetValue::Reference(copy_text(alloc, name)?),
+            ObjectSetValue::Inline(fields) => {
+                ObjectSetValue::Inline(copy_information_object_fields(alloc, fields)?)
+            }
+        })?;
+    }
+    Ok(copies)
+}
+
+/// A copy of an item of an object set.
+///
+/// Err: want of memory.
+pub fn copy_object_set_value(alloc: Global, value: &ObjectSetValue) -> Mem<ObjectSetValue>
+    ensures { IfOk result (λ copy. copy ≡ value.now) }
+{
+    match value {
+        ObjectSetValue::Reference(name) => Ok(ObjectSetValue::Reference(copy_text(alloc, name)?)),
+        ObjectSetValue::Inline(fields) => Ok(ObjectSetValue::Inline(copy_information_object_fields(
+            alloc, fields,
+        )?)),
+    }
+}
+
+impl CopyTree for ObjectSetValue {
+    fn copy_tree(&self, alloc: Global) -> Mem<ObjectSetValue> {
+        copy_object_set_value(alloc, self)
+    }
+}
+
+/// A copy of an object set.
+///
+/// Err: want of memory.
+pub fn copy_object_set(alloc: Global, value: &ObjectSet) -> Mem<ObjectSet>
+    ensures { IfOk result (λ copy. copy ≡ value.now) }
+{
+    Ok(ObjectSet {
+        values: copy_object_set_values(alloc, &value.values)?,
+        extensible: value.extensible,
+    })
+}
+
+/// A copy of a field that is a value.
+///
+/// Err: want of memory.
+pub fn copy_fixed_value_field(alloc: Global, value: &FixedValueField) -> Mem<FixedValueField>
+    ensures { IfOk result (λ copy. copy ≡ value.now) }
+{
+    let (identifier, value) = both(
+        copy_text(alloc, &value.identifier),
+        copy_asn1_value(alloc, &value.value),
+    )?;
+    Ok(FixedValueField { identifier, value })
+}
+
+/// A copy of a field that is a type.
+///
+/// Err: want of memory.
+pub fn copy_type_field(alloc: Global, value: &TypeField) -> Mem<TypeField>
+    ensures { IfOk result (λ copy. copy ≡ value.now) }
+{
+    let (identifier, ty) = both(
+        copy_text(alloc, &value.identifier),
+        copy_asn1_type(alloc, &value.ty),
+    )?;
+    Ok(TypeField { identifier, ty })
+}
+
+/// A copy of a field that is an object set.
+///
+/// Err: want of memory.
+pub fn copy_object_set_field(alloc: Global, value: &ObjectSetField) -> Mem<ObjectSetField>
+    ensures { IfOk result (λ copy. copy ≡ value.now) }
+{
+    let (identifier, value) = both(
+        copy_text(alloc, &value.identifier),
+        copy_object_set(alloc, &value.value),
+    )?;
+    Ok(ObjectSetField { identifier, value })
+}
+
+/// A copy of the type of a class's field.
+///
+/// Err: want of memory.
+pub fn copy_information_object_field_reference(
+    alloc: Global,
+    value: &InformationObjectFieldReference,
+) -> Mem<InformationObjectFieldReference>
+    ensures { IfOk result (λ copy. copy ≡ value.now) }
+{
+    let ((class, field_path), constraints) = both(
+        both(
+            copy_text(alloc, &value.class),
+            copy_list(alloc, &value.field_path),
+        ),
+        copy_constraints(alloc, &value.constraints),
+    )?;
+    Ok(InformationObjectFieldReference {
+        class,
+        field_path,
+        constraints,
+    })
+}
+
+/// A copy of an object.
+///
+/// Err: want of memory.
+pub fn copy_information_object(alloc: Global, value: &InformationObject) -> Mem<InformationObject>
+    ensures { IfOk result (λ copy. copy ≡ value.now) }
+{
+    let (class_name, fields) = both(
+        copy_text(alloc, &value.class_name),
+        copy_information_object_fields(alloc, &value.fields),
+    )?;
+    Ok(InformationObject { class_name, fields })
+}
+
+/// A copy of a token of a class's own syntax.
+///
+/// Err: want of memory.
+pub fn copy_syntax_token(alloc: Global, value: &SyntaxToken) -> Mem<SyntaxToken>
+    ensures { IfOk result (λ copy. copy ≡ value.now) }
+{
+    match value {
+        SyntaxToken::Literal(word) => Ok(SyntaxToken::Literal(copy_text(alloc, word)?)),
+        SyntaxToken::Comma => Ok(SyntaxToken::Comma),
+        SyntaxToken::Field(field) => Ok(SyntaxToken::Field(copy_object_field_identifier(
+            alloc, field,
+        )?)),
+    }
+}
+
+/// A copy of a part of a class's own syntax.
+///
+/// Err: want of memory.
+#[cycle(syntax)]
+pub fn copy_syntax_expression(alloc: Global, value: &SyntaxExpression) -> Mem<SyntaxExpression>
+    ensures { IfOk result (λ copy. copy ≡ value.now) }
+{
+    match value {
+        SyntaxExpression::Required(token) => {
+            Ok(SyntaxExpression::Required(copy_syntax_token(alloc, token)?))
+        }
+        SyntaxExpression::Optional(group) => {
+            Ok(SyntaxExpression::Optional(copy_syntax_expressions(alloc, group)?))
+        }
+    }
+}
+
+#[cycle(syntax)]
+fn copy_syntax_expressions(
+    alloc: Global,
+    group: &List<SyntaxExpression>,
+) -> Mem<List<SyntaxExpression>>
+    ensures { IfOk result (λ copy. copy ≡ group.now) }
+{
+    let mut copies = List::new(alloc);
+    for expression in group.as_slice() {
+        copies.add(copy_syntax_expression(alloc, expression)?)?;
+    }
+    Ok(copies)
+}
+
+/// A copy of the syntax in which a class's objects are written.
+///
+/// Err: want of memory.
+pub fn copy_information_object_syntax(
+    alloc: Global,
+    value: &InformationObjectSyntax,
+) -> Mem<InformationObjectSyntax>
+    ensures { IfOk result (λ copy. copy ≡ value.now) }
+{
+    Ok(InformationObjectSyntax {
+        expressions: copy_syntax_expressions(alloc, &value.expressions)?,
+    })
+}
+
+fn copy_optional_syntax(
+    alloc: Global,
+    value: &Option<InformationObjectSyntax>,
+) -> Mem<Option<InformationObjectSyntax>>
+    ensures { IfOk result (λ copy. copy ≡ value.now) }
+{
+    match value {
+        Some(syntax) => Ok(Some(copy_information_object_syntax(alloc, syntax)?)),
+        None => Ok(None),
+    }
+}
+
+fn copy_optional_type(alloc: Global, value: &Option<ASN1Type>) -> Mem<Option<ASN1Type>>
+    ensures { IfOk result (λ copy. copy ≡ value.now) }
+{
+    match value {
+        Some(ty) => Ok(Some(copy_asn1_type(alloc, ty)?)),
+        None => Ok(None),
+    }
+}
+
+/// A copy of a field of a class.
+///
+/// Err: want of memory.
+pub fn copy_information_object_class_field(
+    alloc: Global,
+    value: &InformationObjectClassField,
+) -> Mem<InformationObjectClassField>
+    ensures { IfOk result (λ copy. copy ≡ value.now) }
+{
+    let (identifier, (ty, default)) = both(
+        copy_object_field_identifier(alloc, &value.identifier),
+        both(
+            copy_optional_type(alloc, &value.ty),
+            copy_optional_value(alloc, &value.default),
+        ),
+    )?;
+    Ok(InformationObjectClassField {
+        identifier,
+        ty,
+        is_optional: value.is_optional,
+        default,
+        is_unique: value.is_unique,
+    })
+}
+
+impl CopyTree for InformationObjectClassField {
+    fn copy_tree(&self, alloc: Global) -> Mem<InformationObjectClassField> {
+        copy_information_object_class_field(alloc, self)
+    }
+}
+
+/// A copy of a class.
+///
+/// Err: want of memory.
+pub fn copy_information_object_class(
+    alloc: Global,
+    value: &InformationObjectClass,
+) -> Mem<InformationObjectClass>
+    ensures { IfOk result (λ copy. copy ≡ value.now) }
+{
+    let (fields, syntax) = both(
+        copy_list(alloc, &value.fields),
+        copy_optional_syntax(alloc, &value.syntax),
+    )?;
+    Ok(InformationObjectClass { fields, syntax })
+}
+
+/// A copy of the class of an object or an object set.
+///
+/// Err: want of memory.
+pub fn copy_class_link(alloc: Global, value: &ClassLink) -> Mem<ClassLink>
+    ensures { IfOk result (λ copy. copy ≡ value.now) }
+{
+    match value {
+        ClassLink::ByName(name) => Ok(ClassLink::ByName(copy_text(alloc, name)?)),
+        ClassLink::ByReference(name, class) => {
+            let (name, class) = both(
+                copy_text(alloc, name),
+                copy_information_object_class(alloc, class),
+            )?;
+            Ok(ClassLink::ByReference(name, class))
+        }
+    }
+}
+
+/// A copy of what an information definition defines.
+///
+/// Err: want of memory.
+pub fn copy_asn1_information(alloc: Global, value: &ASN1Information) -> Mem<ASN1Information>
+    ensures { IfOk result (λ copy. copy ≡ value.now) }
+{
+    match value {
+        ASN1Information::ObjectClass(class) => Ok(ASN1Information::ObjectClass(
+            copy_information_object_class(alloc, class)?,
+        )),
+        ASN1Information::ObjectSet(set) => {
+            Ok(ASN1Information::ObjectSet(copy_object_set(alloc, set)?))
+        }
+        ASN1Information::Object(object) => {
+            Ok(ASN1Information::Object(copy_information_object(alloc, object)?))
+        }
+    }
+}
