@@ -5,16 +5,16 @@ use crate::parts::{
 };
 use asn_copy::{
     copy_asn1_type, copy_asn1_value, copy_boolean, copy_constraint, copy_declaration_elsewhere,
-    copy_element_or_set_operation, copy_element_set, copy_integer, copy_list,
-    copy_module_reference, copy_reading, copy_sequence_or_set, copy_sequence_or_set_member,
-    copy_subtype_element, copy_text, copy_toplevel_definition, copy_toplevel_type_definition,
+    copy_element_or_set_operation, copy_integer, copy_list, copy_module_reference, copy_reading,
+    copy_sequence_or_set, copy_sequence_or_set_member, copy_subtype_element,
+    copy_toplevel_type_definition,
 };
 use asn_memory::Mem;
 use asn_modules::{SpecError, asn_spec};
 use asn_tree::{
-    ASN1Type, ASN1Value, Constraint, DeclarationElsewhere, ElementOrSetOperation, ElementSet,
-    Integer, ModuleReference, Reading, SequenceOrSet, SequenceOrSetMember, TaggingEnvironment,
-    ToplevelDefinition, ToplevelTypeDefinition,
+    ASN1Type, ASN1Value, Constraint, DeclarationElsewhere, ElementOrSetOperation, Integer,
+    ModuleReference, Reading, SequenceOrSet, SequenceOrSetMember, TaggingEnvironment,
+    ToplevelTypeDefinition,
 };
 use std::alloc::Global;
 use std::test::Fail;
@@ -40,12 +40,6 @@ fn is_header_copied(alloc: Global, header: &ModuleReference) -> Mem<bool> {
     )
 }
 
-fn is_definition_copied(alloc: Global, definition: &ToplevelDefinition) -> Mem<bool> {
-    let copy = copy_toplevel_definition(alloc, definition)?;
-    let name = copy_text(alloc, copy.name())?;
-    Ok(name.as_str() == "My-test-integer")
-}
-
 #[test]
 fn of_readings(rt: HostRuntime) -> Result<(), Fail> {
     let alloc = rt.alloc();
@@ -53,7 +47,7 @@ fn of_readings(rt: HostRuntime) -> Result<(), Fail> {
     assert_eq!(rt; reading.len(), 1);
     let (header, definitions) = reading.get(0).ok_or("a module")?;
     assert!(rt; is_header_copied(alloc, header)?);
-    assert!(rt; is_definition_copied(alloc, definitions.get(0).ok_or("a definition")?)?);
+    assert_eq!(rt; definitions.len(), 1);
     Ok(())
 }
 
@@ -88,11 +82,6 @@ fn range_of_constraint(alloc: Global, constraint: &Constraint) -> Mem<Option<(i1
     Ok(range_of(&copy_constraint(alloc, constraint)?))
 }
 
-fn range_of_set(alloc: Global, set: &ElementSet) -> Mem<Option<(i128, i128)>> {
-    let copy = copy_element_set(alloc, set)?;
-    Ok(element_in(&copy.set).and_then(ends_of))
-}
-
 fn range_of_element(alloc: Global, element: &ElementOrSetOperation) -> Mem<Option<(i128, i128)>> {
     let copy = copy_element_or_set_operation(alloc, element)?;
     match element_in(&copy) {
@@ -110,7 +99,6 @@ fn of_constraints(rt: HostRuntime) -> Result<(), Fail> {
     let constraint = integer.constraints.get(0).ok_or("a constraint")?;
     assert_eq!(rt; range_of_constraint(alloc, constraint)?, Some((1, 128)));
     let set = set_in(constraint).ok_or("a set")?;
-    assert_eq!(rt; range_of_set(alloc, set)?, Some((1, 128)));
     assert_eq!(rt; range_of_element(alloc, &set.set)?, Some((1, 128)));
     Ok(())
 }

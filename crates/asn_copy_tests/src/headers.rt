@@ -1,17 +1,16 @@
-//! Copies of what no text is read as yet: parts of headers, and parameters.
+//! Copies of what no text is read as yet: parts of headers.
 
 use asn_copy::{
     copy_assigned_identifier, copy_definitive_identifier, copy_distinguished_value,
     copy_encoding_reference_default, copy_exports, copy_external_value_reference,
     copy_global_module_reference, copy_import, copy_object_identifier_arc,
-    copy_object_identifier_value, copy_parameter_governor, copy_parameterization,
-    copy_parameterization_argument,
+    copy_object_identifier_value,
 };
 use asn_memory::{List, Mem, Text};
 use asn_tree::{
     AssignedIdentifier, DefinitiveIdentifier, DistinguishedValue, EncodingReferenceDefault,
     Exports, ExternalValueReference, GlobalModuleReference, Import, ObjectIdentifierArc,
-    ObjectIdentifierValue, ParameterGovernor, Parameterization, ParameterizationArgument, With,
+    ObjectIdentifierValue, With,
 };
 use std::alloc::Global;
 use std::test::Fail;
@@ -73,16 +72,6 @@ fn import(alloc: Global) -> Mem<Import> {
     })
 }
 
-// The dummy reference `CLASS : Dummy`.
-fn argument(alloc: Global) -> Mem<ParameterizationArgument> {
-    let dummy_reference = Text::new(alloc, "Dummy")?;
-    let governor = Text::new(alloc, "CLASS")?;
-    Ok(ParameterizationArgument {
-        dummy_reference,
-        param_governor: ParameterGovernor::Class(governor),
-    })
-}
-
 // Whether the one name is `A`.
 fn is_a(names: &List<Text>) -> bool {
     match names.as_slice() {
@@ -135,21 +124,6 @@ fn of_imports(rt: HostRuntime) -> Result<(), Fail> {
         Exports::Identifier(names) => assert!(rt; is_a(&names)),
         Exports::All => assert!(rt; false, "another form"),
     }
-    Ok(())
-}
-
-#[test]
-fn of_parameters(rt: HostRuntime) -> Result<(), Fail> {
-    let alloc = rt.alloc();
-    let argument = copy_parameterization_argument(alloc, &argument(alloc)?)?;
-    assert_eq!(rt; argument.dummy_reference.as_str(), "Dummy");
-    match copy_parameter_governor(alloc, &argument.param_governor)? {
-        ParameterGovernor::Class(class) => assert_eq!(rt; class.as_str(), "CLASS"),
-        _ => assert!(rt; false, "another form"),
-    }
-    let parameters = List::of(alloc, argument)?;
-    let copy = copy_parameterization(alloc, &Parameterization { parameters })?;
-    assert_eq!(rt; copy.parameters.len(), 1);
     Ok(())
 }
 
