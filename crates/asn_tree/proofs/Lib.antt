@@ -2,4 +2,5 @@ pub mod Backs
 pub mod Misses
 pub mod Moves
 pub mod Numerals
+pub mod Parts
 pub mod Sorts

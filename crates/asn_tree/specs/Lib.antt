@@ -1,4 +1,5 @@
 pub mod Calls
+pub mod Equality
 pub mod Folds
 pub mod Layers
 pub mod Listing

@@ -122,7 +122,7 @@ pub struct TableConstraintOver<F> {
 pub type TableConstraint = TableConstraintOver<InformationObjectFields>;
 
 /// A name after `@` (X.682 10.7).
-#[derive(Drop, PartialEq, Eq)]
+#[derive(Drop)]
 pub struct RelationalConstraint {
     pub field_name: Text,
     /// 0 where the name starts at the outermost type; else how many types outwards from the innermost it starts.
@@ -130,14 +130,14 @@ pub struct RelationalConstraint {
 }
 
 /// A pattern (X.680 51.9).
-#[derive(Drop, PartialEq, Eq)]
+#[derive(Drop)]
 pub struct PatternConstraint {
     /// The text between the quotes.
     pub pattern: Text,
 }
 
 /// A constraint that the notation does not tell (X.682 9.1).
-#[derive(Drop, PartialEq, Eq)]
+#[derive(Drop)]
 pub struct UserDefinedConstraint {
     /// The text between the braces.
     pub definition: Text,

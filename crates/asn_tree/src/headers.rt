@@ -7,7 +7,7 @@ use asn_memory::{List, Text};
 use std::ops::Add;
 
 /// The header of a module (X.680 13.1).
-#[derive(Drop, PartialEq, Eq)]
+#[derive(Drop)]
 pub struct ModuleReference {
     pub name: Text,
     pub module_identifier: Option<DefinitiveIdentifier>,
@@ -21,7 +21,7 @@ pub struct ModuleReference {
 }
 
 /// The object identifier that names a module (X.680 13.1).
-#[derive(Drop, PartialEq, Eq)]
+#[derive(Drop)]
 pub enum DefinitiveIdentifier {
     DefinitiveOID(ObjectIdentifierValue),
     DefinitiveOIDandIRI {
@@ -31,7 +31,7 @@ pub enum DefinitiveIdentifier {
 }
 
 /// The encoding reference of a module (X.680 13.1).
-#[derive(Drop, PartialEq, Eq)]
+#[derive(Drop)]
 pub struct EncodingReferenceDefault(pub Text);
 
 /// How the tags of a module are read (X.680 13).
@@ -67,7 +67,7 @@ pub enum ExtensibilityEnvironment {
 }
 
 /// Symbols imported from one module (X.680 13.1).
-#[derive(Drop, PartialEq, Eq)]
+#[derive(Drop)]
 pub struct Import {
     /// The imported names in order.
     pub types: List<Text>,
@@ -83,14 +83,14 @@ pub enum With {
 }
 
 /// The module that an import names (X.680 13.1).
-#[derive(Drop, PartialEq, Eq)]
+#[derive(Drop)]
 pub struct GlobalModuleReference {
     pub module_reference: Text,
     pub assigned_identifier: AssignedIdentifier,
 }
 
 /// The identifier assigned to an imported module (X.680 13.1).
-#[derive(Drop, PartialEq, Eq)]
+#[derive(Drop)]
 pub enum AssignedIdentifier {
     ObjectIdentifierValue(ObjectIdentifierValue),
     ExternalValueReference(ExternalValueReference),
@@ -103,14 +103,14 @@ pub enum AssignedIdentifier {
 }
 
 /// A value reference with its module's name (X.680 14.1).
-#[derive(Drop, PartialEq, Eq)]
+#[derive(Drop)]
 pub struct ExternalValueReference {
     pub module_reference: Text,
     pub value_reference: Text,
 }
 
 /// What a module exports (X.680 13.1).
-#[derive(Drop, PartialEq, Eq)]
+#[derive(Drop)]
 pub enum Exports {
     /// These names.
     Identifier(List<Text>),
@@ -118,11 +118,11 @@ pub enum Exports {
 }
 
 /// An object identifier value (X.680 32.3).
-#[derive(Drop, PartialEq, Eq)]
+#[derive(Drop)]
 pub struct ObjectIdentifierValue(pub List<ObjectIdentifierArc>);
 
 /// An arc of an object identifier: a name, a number, or both (X.680 32.3).
-#[derive(Drop, PartialEq, Eq)]
+#[derive(Drop)]
 pub struct ObjectIdentifierArc {
     pub name: Option<Text>,
     pub number: Option<u128>,

@@ -8,6 +8,7 @@
 
 mod constraints;
 mod definitions;
+mod equality;
 mod errors;
 mod headers;
 mod making;
@@ -46,6 +47,10 @@ pub use definitions::ToplevelDefinition;
 pub use definitions::ToplevelInformationDefinition;
 pub use definitions::ToplevelTypeDefinition;
 pub use definitions::ToplevelValueDefinition;
+pub use equality::SameTree;
+pub use equality::equal_marks;
+pub use equality::equal_settings;
+pub use equality::equal_words;
 pub use errors::GrammarError;
 pub use errors::GrammarErrorType;
 pub use errors::LinkFault;
@@ -110,7 +115,6 @@ pub use settings::SettingError;
 pub use settings::StartEndPointSettings;
 pub use settings::TimeSettings;
 pub use settings::YearSettings;
-pub use settings::equal_settings;
 pub use types::ASN1Type;
 pub use types::BitString;
 pub use types::BitStringOver;

@@ -49,7 +49,7 @@ pub enum SyntaxApplication {
 }
 
 /// A token of a class's own syntax (X.681 10.5).
-#[derive(Drop, PartialEq, Eq)]
+#[derive(Drop)]
 pub enum SyntaxToken {
     /// A word in capital letters.
     Literal(Text),
@@ -88,7 +88,7 @@ pub struct InformationObjectClassField {
 }
 
 /// The name of a field with its `&` (X.681 clause 7).
-#[derive(Drop, PartialEq, Eq)]
+#[derive(Drop)]
 pub enum ObjectFieldIdentifier {
     /// A small letter follows the `&`: a value or an object.
     SingleValue(Text),

@@ -4,7 +4,7 @@
 //! property, which the nine types write and read.
 
 ghost use Rattle.asn_tree.specs.Settings.{pair_of};
-ghost use Rattle.std.specs.Prelude.{◌≡◌, ℕ, List as Sequence, Option, Some, IfOk, IsTrue, ◌↔◌};
+ghost use Rattle.std.specs.Prelude.{◌≡◌, ℕ, List as Sequence, Option, Some, IfOk};
 ghost use Rattle.std.specs.Result.{result_ok};
 
 use asn_memory::{List, Mem, Text};
@@ -42,16 +42,11 @@ pub trait PropertySetting: Copy {
 }
 
 /// The settings that a constraint asks for (X.680 51.10).
-#[derive(Drop, PartialEq, Eq)]
+#[derive(Drop)]
 pub struct PropertySettings {
     /// The settings in order.
     pub property_settings_list: List<PropertyAndSettingsPair>,
 }
-
-/// The law of `==`: it is true exactly where both ask for the same settings in the same order.
-pub fn equal_settings(left: &PropertySettings, right: &PropertySettings)
-    ensures { IsTrue (⟦<PropertySettings as PartialEq>⟧.eq left.now right.now) ↔ (left.now ≡ right.now) }
-{}
 
 /// A property with its setting (X.680 51.10).
 #[derive(Clone, Copy, Debug, PartialEq, Eq)]

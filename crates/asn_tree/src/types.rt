@@ -254,7 +254,7 @@ pub struct ChoiceOption {
 }
 
 /// An item of an ENUMERATED (X.680 20.1).
-#[derive(Drop, PartialEq, Eq)]
+#[derive(Drop)]
 pub struct Enumeral {
     pub name: Text,
     /// The comment after it.
@@ -264,14 +264,14 @@ pub struct Enumeral {
 }
 
 /// A named number (X.680 19.1) or a named bit (X.680 22.1).
-#[derive(Drop, PartialEq, Eq)]
+#[derive(Drop)]
 pub struct DistinguishedValue {
     pub name: Text,
     pub value: i128,
 }
 
 /// A selection type: an option of a CHOICE that a name stands for (X.680 30.1).
-#[derive(Drop, PartialEq, Eq)]
+#[derive(Drop)]
 pub struct ChoiceSelectionType {
     /// The name of the CHOICE.
     pub choice_name: Text,
