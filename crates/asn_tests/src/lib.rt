@@ -2,11 +2,10 @@
 //!
 //! The room above all others, which nothing stands on. It holds what no clause says: the trees that a text is read and
 //! linked as, and each call once with ample memory. One module for each topic; `readings` has what they share; the
-//! texts are those of `asn_run_tests`, and `asn_copy_tests` has the tests of copies.
+//! texts are those of `asn_run_tests`; `asn_copy_tests` has the tests of copies and constructors, `asn_call_tests` those of
+//! the calls on trees.
 #![tactic(auto)]
 
-#[cfg(test)]
-mod calls;
 #[cfg(test)]
 mod judging;
 #[cfg(test)]
@@ -20,7 +19,5 @@ mod places;
 pub mod readings;
 #[cfg(test)]
 mod rules;
-#[cfg(test)]
-mod settings;
 #[cfg(test)]
 mod trees;

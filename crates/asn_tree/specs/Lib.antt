@@ -1,5 +1,6 @@
 pub mod Calls
 pub mod Equality
+pub mod EqualityErrors
 pub mod Folds
 pub mod Layers
 pub mod Listing

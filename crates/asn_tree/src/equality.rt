@@ -14,6 +14,7 @@ mod classes;
 mod constraints;
 mod definitions;
 mod elements;
+mod errors;
 mod headers;
 mod kinds;
 mod objects;
@@ -21,6 +22,7 @@ mod plain;
 mod types;
 mod values;
 
+pub use errors::{equal_faults, equal_refusals, equal_warnings};
 pub use plain::{equal_marks, equal_settings, equal_words};
 
 /// What can be compared with another of its type.

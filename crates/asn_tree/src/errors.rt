@@ -7,7 +7,7 @@ use std::alloc::Global;
 use thiserror::Error;
 
 /// A warning on a definition of a linked answer.
-#[derive(Debug, Drop, Error)]
+#[derive(Debug, Drop, Error, PartialEq)]
 #[error("{kind:?} in {pdu:?}: {details}")]
 pub struct LinkerError {
     /// The definition's name.
@@ -95,7 +95,7 @@ pub enum GrammarErrorType {
 }
 
 /// A refusal: what is asked of a tree does not fit its form.
-#[derive(Debug, Drop, Error)]
+#[derive(Debug, Drop, Error, PartialEq)]
 #[error("{kind:?} in {pdu:?}: {details}")]
 pub struct GrammarError {
     /// What is wrong, in words.
@@ -139,7 +139,7 @@ impl GrammarError {
 }
 
 /// Why a tree is not linked.
-#[derive(Debug, Drop, Error)]
+#[derive(Debug, Drop, Error, PartialEq)]
 pub enum LinkFault {
     /// The tree is refused.
     #[error("{0}")]

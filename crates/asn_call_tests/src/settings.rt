@@ -1,11 +1,10 @@
 //! Texts of settings, as the standard lists them: each is read and written once.
 
-use asn_copy::copy_property_settings;
-use asn_memory::{List, Mem};
+use asn_memory::Mem;
 use asn_tree::{
     BasicSettings, DateSettings, IntervalTypeSettings, LocalOrUtcSettings, MidnightSettings,
-    PropertyAndSettingsPair, PropertySetting, PropertySettings, RecurrenceSettings, SettingError,
-    StartEndPointSettings, TimeSettings, YearSettings, equal_settings,
+    PropertyAndSettingsPair, PropertySetting, RecurrenceSettings, SettingError,
+    StartEndPointSettings, TimeSettings, YearSettings,
 };
 use std::alloc::Global;
 use std::test::Fail;
@@ -234,21 +233,4 @@ fn of_pairs(rt: HostRuntime) {
             "at {name}"
         );
     }
-}
-
-#[test]
-fn of_copies(rt: HostRuntime) -> Result<(), Fail> {
-    let alloc = rt.alloc();
-    let mut pairs = List::of(alloc, PropertyAndSettingsPair::Basic(BasicSettings::Date))?;
-    pairs.add(PropertyAndSettingsPair::Year(YearSettings::Large(5)))?;
-    let settings = PropertySettings {
-        property_settings_list: pairs,
-    };
-    let mut copy = copy_property_settings(alloc, &settings)?;
-    assert!(rt; copy == settings);
-    equal_settings(&copy, &settings);
-    let end = PropertyAndSettingsPair::Midnight(MidnightSettings::EndOfDay);
-    copy.property_settings_list.add(end)?;
-    assert!(rt; copy != settings);
-    Ok(())
 }
