@@ -24,3 +24,5 @@ mod rules;
 mod settings;
 #[cfg(test)]
 mod trees;
+#[cfg(test)]
+mod value_calls;
