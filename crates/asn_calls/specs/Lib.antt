@@ -1,8 +1,10 @@
 pub mod Admitting
 pub mod Constraints
 pub mod Counting
+pub mod Definitions
 pub mod Enumeration
 pub mod Faults
+pub mod Headers
 pub mod Integers
 pub mod Laws
 pub mod Paths
@@ -10,3 +12,4 @@ pub mod Rows
 pub mod Strings
 pub mod Tagging
 pub mod Types
+pub mod Values

@@ -59,7 +59,7 @@ impl ConstraintCalls for Constraint {
                     ..
                 },
             ) => Ok((min, max, *extensible)),
-            _ => Err(no_element("the constraint is not one range")),
+            _ => Err(unpacking_error("the constraint is not one range")),
         }
     }
 
@@ -70,12 +70,12 @@ impl ConstraintCalls for Constraint {
     {
         match element(self) {
             Some(SubtypeElement::SingleValue { value, extensible }) => Ok((value, *extensible)),
-            _ => Err(no_element("the constraint is not one single value")),
+            _ => Err(unpacking_error("the constraint is not one single value")),
         }
     }
 }
 
-fn no_element(details: &'static str) -> GrammarError
+pub(crate) fn unpacking_error(details: &'static str) -> GrammarError
     ensures { IsUnpackingError result }
 {
     GrammarError::new(details, GrammarErrorType::UnpackingError)
@@ -93,7 +93,7 @@ fn element(constraint: &Constraint) -> Option<&SubtypeElement>
     }
 }
 
-fn whole_number(value: &ASN1Value) -> Option<i128>
+pub(crate) fn whole_number(value: &ASN1Value) -> Option<i128>
     ensures { result ≡ number_of value.now }
 {
     match value {

@@ -7,7 +7,9 @@
 mod builtin;
 mod constrainable;
 mod constraints;
+mod definitions;
 mod enumeration;
+mod headers;
 mod integers;
 mod laws;
 mod names;
@@ -16,10 +18,15 @@ mod strings;
 mod tagging;
 mod taken;
 mod types;
+mod values;
 
 pub use constrainable::Constrainable;
 pub use constraints::ConstraintCalls;
+pub use definitions::{
+    ToplevelDefinitionCalls, ToplevelInformationDefinitionCalls, ToplevelTypeDefinitionCalls,
+};
 pub use enumeration::enumerate;
+pub use headers::ModuleReferenceCalls;
 pub use integers::{IntegerCalls, IntegerTypeCalls};
 pub use laws::{
     int_type_holds_what_is_admitted, max_restrictive_is_least, numbers_are_distinct,
@@ -27,5 +34,5 @@ pub use laws::{
 };
 pub use paths::{InformationObjectFieldReferenceCalls, ObjectFieldIdentifierCalls};
 pub use strings::CharacterStringTypeCalls;
-pub use tagging::ToplevelDefinitionCalls;
 pub use types::ASN1TypeCalls;
+pub use values::{ASN1ValueCalls, StructLikeFieldValueCalls};

@@ -1,4 +1,4 @@
-//! Calls on definitions that change their tags.
+//! Definitions with changed tags.
 
 ghost use Rattle.asn_tree.specs.Tagging.{retagged_argument, retagged_class, retagged_class_field, retagged_definition, retagged_information, retagged_link, retagged_parameters};
 ghost use Rattle.std.specs.Option.{option_map};
@@ -14,34 +14,25 @@ use asn_tree::{
 };
 use trees::{retag, retag_fields, retag_set_values, retag_type, retag_value};
 
-/// Calls on `ToplevelDefinition`.
-pub trait ToplevelDefinitionCalls {
-    /// Adds a module's tagging environment to that of each tag in the definition, at every depth: a tag's own stands,
-    /// unless it is automatic. All else stays as it is. It takes no memory.
-    fn apply_tagging_environment(&mut self, environment: &TaggingEnvironment);
-}
-
-impl ToplevelDefinitionCalls for ToplevelDefinition {
-    fn apply_tagging_environment(&mut self, environment: &TaggingEnvironment)
-        ensures { self.new ≡ retagged_definition environment.now self.old }
-    {
-        let environment = *environment;
-        match self {
-            ToplevelDefinition::TypeDef(definition) => {
-                retag(&mut definition.tag, environment);
-                retag_type(&mut definition.ty, environment);
-                retag_parameters(&mut definition.parameterization, environment);
-            }
-            ToplevelDefinition::Value(definition) => {
-                retag_type(&mut definition.associated_type, environment);
-                retag_parameters(&mut definition.parameterization, environment);
-                retag_value(&mut definition.value, environment);
-            }
-            ToplevelDefinition::Information(definition) => {
-                retag_parameters(&mut definition.parameterization, environment);
-                retag_link(&mut definition.class, environment);
-                retag_information(&mut definition.value, environment);
-            }
+/// Adds the environment to that of each tag in the definition.
+pub(crate) fn retag_definition(definition: &mut ToplevelDefinition, environment: TaggingEnvironment)
+    ensures { definition.new ≡ retagged_definition environment definition.old }
+{
+    match definition {
+        ToplevelDefinition::TypeDef(definition) => {
+            retag(&mut definition.tag, environment);
+            retag_type(&mut definition.ty, environment);
+            retag_parameters(&mut definition.parameterization, environment);
+        }
+        ToplevelDefinition::Value(definition) => {
+            retag_type(&mut definition.associated_type, environment);
+            retag_parameters(&mut definition.parameterization, environment);
+            retag_value(&mut definition.value, environment);
+        }
+        ToplevelDefinition::Information(definition) => {
+            retag_parameters(&mut definition.parameterization, environment);
+            retag_link(&mut definition.class, environment);
+            retag_information(&mut definition.value, environment);
         }
     }
 }

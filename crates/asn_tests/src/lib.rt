@@ -21,3 +21,5 @@ pub mod readings;
 mod rules;
 #[cfg(test)]
 mod trees;
+#[cfg(test)]
+mod value_calls;
