@@ -1,8 +1,7 @@
 -- What integer types hold, and how they are found.
-use Rattle.std.proofs.Common.{◌≡◌, ℕ, suc, ◌<◌, ◌^◌, ℤ, pos, negsuc, ◌≤ℤ◌, ◌<ℤ◌, int_le, int_lt, nat_le, Bool, true, false, ◌&&◌, if◌then◌else◌, List, [], ◌∷◌, length, get_or, drop, drop-cons, Option, Some, None, refl, ap, sym, ◌∙◌, arith}
+use Rattle.std.proofs.Common.{◌≡◌, ℕ, suc, ◌<◌, ◌^◌, ℤ, pos, ◌≤ℤ◌, int_le, nat_le, Bool, true, false, ◌&&◌, if◌then◌else◌, List, [], ◌∷◌, length, get_or, drop, drop-cons, Option, Some, None, refl, ap, sym, ◌∙◌, arith}
 use Rattle.std.specs.List.{fold}
 use Rattle.std.proofs.lemmas.Int.{ints}
-use Rattle.std.proofs.lemmas.Bool.Decides.{nat_tests}
 use Rattle.asn_tree.specs.declared.constraints.Constraint.{Constraint}
 use Rattle.asn_tree.specs.declared.constraints.SubtypeElement.{SubtypeElement, SubtypeElement-F, out-SubtypeElement}
 use Rattle.asn_tree.specs.declared.plain.IntegerType.{IntegerType}
@@ -11,7 +10,7 @@ use Rattle.asn_tree.specs.Layers.{ElementLayer}
 use Rattle.asn_calls.specs.Admitting.{IsFrom, IsTo, IsSingle, AdmitsAt, AdmitsIn, Admits, AllAdmit}
 use Rattle.asn_calls.specs.Constraints.{bounds_at, bounds_in, both, element_of, number_in, number_of}
 use Rattle.asn_calls.specs.Laws.{AdmittedIsHeld}
-use Rattle.asn_calls.specs.Integers.{earlier, first_holding, holds, is_signed_below, is_unsigned_below, least_type, place, signed_types, spans, type_between, type_of, type_of_all, unsigned_types}
+use Rattle.asn_calls.specs.Integers.{earlier, first_holding, holds, is_signed_below, is_unsigned_below, least_type, place, signed_types, spans, type_between, type_of, unsigned_types}
 
 -- where the one at i spans the numbers and those before it are passed over, it is the first
 pub first_found : (low high : ℤ) (ts : List IntegerType) (i : ℕ) (d : IntegerType) (b : Bool) → i < length ts → b ≡ spans (get_or ts i d) low high → b ≡ true → first_holding low high (drop i ts) ≡ first_holding low high ts → get_or ts i d ≡ first_holding low high ts

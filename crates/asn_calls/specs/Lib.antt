@@ -5,8 +5,10 @@ pub mod Enumeration
 pub mod Faults
 pub mod Integers
 pub mod Laws
+pub mod Members
 pub mod Paths
 pub mod Rows
 pub mod Strings
+pub mod Syntax
 pub mod Tagging
 pub mod Types

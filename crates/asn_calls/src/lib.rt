@@ -10,9 +10,11 @@ mod constraints;
 mod enumeration;
 mod integers;
 mod laws;
+mod members;
 mod names;
 mod paths;
 mod strings;
+mod syntax;
 mod tagging;
 mod taken;
 mod types;
@@ -22,10 +24,15 @@ pub use constraints::ConstraintCalls;
 pub use enumeration::enumerate;
 pub use integers::{IntegerCalls, IntegerTypeCalls};
 pub use laws::{
-    int_type_holds_what_is_admitted, max_restrictive_is_least, numbers_are_distinct,
-    numbers_are_one,
+    environments_add_up, flat_syntax_has_the_tokens, int_type_holds_what_is_admitted,
+    max_restrictive_is_least, name_types_come_in_order, numbers_are_distinct, numbers_are_one,
 };
+pub use members::{IterNameTypes, NameTypes};
 pub use paths::{InformationObjectFieldReferenceCalls, ObjectFieldIdentifierCalls};
 pub use strings::CharacterStringTypeCalls;
+pub use syntax::{
+    InformationObjectFieldCalls, InformationObjectSyntaxCalls, SyntaxApplicationCalls,
+    SyntaxTokenCalls,
+};
 pub use tagging::ToplevelDefinitionCalls;
 pub use types::ASN1TypeCalls;
