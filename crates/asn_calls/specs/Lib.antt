@@ -7,9 +7,11 @@ pub mod Faults
 pub mod Headers
 pub mod Integers
 pub mod Laws
+pub mod Members
 pub mod Paths
 pub mod Rows
 pub mod Strings
+pub mod Syntax
 pub mod Tagging
 pub mod Types
 pub mod Values

@@ -1,6 +1,6 @@
 //! Laws of the calls, each the contract of a function without a body.
 
-ghost use Rattle.asn_calls.specs.Laws.{AdmittedIsHeld, EarlierIsLeast, NumbersAreDistinct, NumbersAreOne};
+ghost use Rattle.asn_calls.specs.Laws.{AdmittedIsHeld, EarlierIsLeast, EnvironmentsAddUp, FlatSyntax, NameTypesInOrder, NumbersAreDistinct, NumbersAreOne};
 
 /// The numbers of an enumeration are determined: `enumerate` has one list to give, or none within `i128`.
 pub fn numbers_are_one()
@@ -21,4 +21,19 @@ pub fn max_restrictive_is_least()
 /// Each whole number that all constraints of an INTEGER accept lies in the range of `int_type`.
 pub fn int_type_holds_what_is_admitted()
     ensures { AdmittedIsHeld }
+{}
+
+/// Tagging environments add up: the sums may be taken in any order, and Automatic adds nothing on either side.
+pub fn environments_add_up()
+    ensures { EnvironmentsAddUp }
+{}
+
+/// `flatten` lists the tokens of a syntax and nothing else, in order, with true exactly at those in no group.
+pub fn flat_syntax_has_the_tokens()
+    ensures { FlatSyntax }
+{}
+
+/// The iterator of `iter_name_types` gives all names and types in order, and then None.
+pub fn name_types_come_in_order()
+    ensures { NameTypesInOrder }
 {}

@@ -12,9 +12,11 @@ mod enumeration;
 mod headers;
 mod integers;
 mod laws;
+mod members;
 mod names;
 mod paths;
 mod strings;
+mod syntax;
 mod tagging;
 mod taken;
 mod types;
@@ -29,10 +31,15 @@ pub use enumeration::enumerate;
 pub use headers::ModuleReferenceCalls;
 pub use integers::{IntegerCalls, IntegerTypeCalls};
 pub use laws::{
-    int_type_holds_what_is_admitted, max_restrictive_is_least, numbers_are_distinct,
-    numbers_are_one,
+    environments_add_up, flat_syntax_has_the_tokens, int_type_holds_what_is_admitted,
+    max_restrictive_is_least, name_types_come_in_order, numbers_are_distinct, numbers_are_one,
 };
+pub use members::{IterNameTypes, NameTypes};
 pub use paths::{InformationObjectFieldReferenceCalls, ObjectFieldIdentifierCalls};
 pub use strings::CharacterStringTypeCalls;
+pub use syntax::{
+    InformationObjectFieldCalls, InformationObjectSyntaxCalls, SyntaxApplicationCalls,
+    SyntaxTokenCalls,
+};
 pub use types::ASN1TypeCalls;
 pub use values::{ASN1ValueCalls, StructLikeFieldValueCalls};

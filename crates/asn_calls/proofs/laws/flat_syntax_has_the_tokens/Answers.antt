@@ -1,0 +1,5 @@
+use Rattle.asn_calls.proofs.Tokens.{is_flat}
+use Rattle.asn_calls.proofs.laws.flat_syntax_has_the_tokens.Goals as goal
+
+pub returns : goal.returns
+returns c = is_flat
