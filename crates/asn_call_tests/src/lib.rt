@@ -11,3 +11,5 @@ mod constraint_calls;
 mod settings;
 #[cfg(test)]
 mod type_calls;
+#[cfg(test)]
+mod value_calls;

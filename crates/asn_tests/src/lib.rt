@@ -21,5 +21,3 @@ pub mod readings;
 mod rules;
 #[cfg(test)]
 mod trees;
-#[cfg(test)]
-mod value_calls;
