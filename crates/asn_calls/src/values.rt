@@ -7,7 +7,7 @@ ghost use Rattle.asn_calls.specs.Values.{IfRefused, IfWanting, IsText, behind, c
 ghost use Rattle.asn_tree.specs.contracts.values.StructLikeFieldValueOver.{the_row};
 ghost use Rattle.std.specs.Borrow.{Lends, sem};
 ghost use Rattle.std.specs.Option.{option_copied, option_map};
-ghost use Rattle.std.specs.Prelude.{◌≡◌, IfErr, IfOk, None, Some};
+ghost use Rattle.std.specs.Prelude.{◌≡◌, IfErr, IfOk, IsOkUnless, None, Some};
 
 use crate::constraints::{unpacking_error, whole_number};
 use asn_memory::Text;
@@ -205,7 +205,7 @@ fn chosen_number(pick: Pick, left: &ASN1Value, right: &ASN1Value) -> Option<i128
 
 fn copied(alloc: Global, text: &Text) -> Result<ASN1Value, LinkFault>
     ensures ok { IfOk result (λ value. value ≡ ASN1Value.String text.now) }
-    ensures memory { IfErr result (λ fault. IfRefused fault (λ _. ⊥)) }
+    ensures memory { IsOkUnless result LinkFault.OutOfMemory }
 {
     match Text::new(alloc, text.as_str()) {
         Ok(text) => Ok(ASN1Value::String(text)),
