@@ -23,4 +23,6 @@ mod rules;
 #[cfg(test)]
 mod settings;
 #[cfg(test)]
+mod syntax_calls;
+#[cfg(test)]
 mod trees;
