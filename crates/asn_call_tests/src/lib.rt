@@ -10,6 +10,8 @@ mod constraint_calls;
 #[cfg(test)]
 mod settings;
 #[cfg(test)]
+mod syntax_calls;
+#[cfg(test)]
 mod type_calls;
 #[cfg(test)]
 mod value_calls;
