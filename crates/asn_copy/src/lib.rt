@@ -2,13 +2,15 @@
 //!
 //! It stands on the trees and knows nothing of their meaning. One module for each family of the grammar, with the
 //! names of the trees' modules; `lists` has the loop that most lists share, `parts` what joins the copies of a tree's
-//! parts.
+//! parts, `making` the trees in which a part stands twice.
 #![tactic(auto)]
 
 mod constraints;
 mod definitions;
+mod errors;
 mod headers;
 mod lists;
+mod making;
 mod objects;
 mod parts;
 mod types;
@@ -26,12 +28,14 @@ pub use definitions::{
     copy_toplevel_definition, copy_toplevel_information_definition, copy_toplevel_type_definition,
     copy_toplevel_value_definition,
 };
+pub use errors::{copy_grammar_error, copy_link_fault, copy_linker_error};
 pub use headers::{
     copy_assigned_identifier, copy_definitive_identifier, copy_encoding_reference_default,
     copy_exports, copy_external_value_reference, copy_global_module_reference, copy_import,
     copy_module_reference, copy_object_identifier_arc, copy_object_identifier_value, copy_text,
 };
 pub use lists::{CopyTree, copy_list};
+pub use making::ValueConstraintMaking;
 pub use objects::{
     copy_asn1_information, copy_class_link, copy_fixed_value_field, copy_information_object,
     copy_information_object_class, copy_information_object_class_field,
