@@ -1,160 +1,205 @@
-//! Copies of what a text is read as, each call once.
+//! Each copy on one tree, which it equals.
 
-use crate::parts::{
-    element_in, ends_of, first_definition, integer_in, range_in, range_of, sequence_in, set_in,
-};
+use crate::comparing::{is_copied, is_copied_by, list};
+use crate::trees::*;
 use asn_copy::{
-    copy_asn1_type, copy_asn1_value, copy_boolean, copy_constraint, copy_declaration_elsewhere,
-    copy_element_or_set_operation, copy_integer, copy_list, copy_module_reference, copy_reading,
-    copy_sequence_or_set, copy_sequence_or_set_member, copy_subtype_element,
-    copy_toplevel_type_definition,
+    copy_asn1_information, copy_asn1_type, copy_assigned_identifier, copy_bit_string, copy_boolean,
+    copy_character_string, copy_choice, copy_choice_selection_type, copy_class_link,
+    copy_composite_constraint, copy_content_constraint, copy_declaration_elsewhere,
+    copy_definitive_identifier, copy_element_or_set_operation, copy_element_set,
+    copy_encoding_reference_default, copy_enumerated, copy_exports, copy_external_value_reference,
+    copy_fixed_value_field, copy_generalized_time, copy_global_module_reference,
+    copy_information_object, copy_information_object_class,
+    copy_information_object_field_reference, copy_information_object_fields,
+    copy_information_object_syntax, copy_inner_type_constraint, copy_integer, copy_list,
+    copy_object_identifier, copy_object_identifier_value, copy_object_set, copy_object_set_field,
+    copy_octet_string, copy_parameter_governor, copy_parameterization, copy_pattern_constraint,
+    copy_property_settings, copy_reading, copy_real, copy_sequence_component, copy_sequence_or_set,
+    copy_sequence_or_set_of, copy_set_operation, copy_struct_like_field_value,
+    copy_subtype_element, copy_syntax_expression, copy_syntax_token, copy_table_constraint,
+    copy_time, copy_toplevel_information_definition, copy_toplevel_type_definition,
+    copy_toplevel_value_definition, copy_type_field, copy_user_defined_constraint, copy_utc_time,
+    copy_value_constraint,
 };
-use asn_memory::Mem;
-use asn_modules::{SpecError, asn_spec};
-use asn_tree::{
-    ASN1Type, ASN1Value, Constraint, DeclarationElsewhere, ElementOrSetOperation, Integer,
-    ModuleReference, Reading, SequenceOrSet, SequenceOrSetMember, TaggingEnvironment,
-    ToplevelTypeDefinition,
-};
+use asn_memory::{Mem, Text};
+use asn_tree::{ASN1Information, ASN1Type, ParameterGovernor};
 use std::alloc::Global;
 use std::test::Fail;
 
-// A module of one INTEGER with a range.
-const WHOLE: &str =
-    "TestModule DEFINITIONS AUTOMATIC TAGS::= BEGIN My-test-integer ::= INTEGER (1..128) END";
-
-// A SEQUENCE of a BOOLEAN and a type reference.
-const SEQUENCE: &str = "M DEFINITIONS ::= BEGIN A ::= SEQUENCE { a BOOLEAN, b B } END";
-
-fn reading_of(alloc: Global, text: &str) -> Result<Reading, SpecError> {
-    asn_spec(alloc, text, 512)
-}
-
-// Each function below copies one tree and tells what it looks like, so that none holds more than one or two.
-
-fn is_header_copied(alloc: Global, header: &ModuleReference) -> Mem<bool> {
-    let copy = copy_module_reference(alloc, header)?;
-    Ok(
-        copy.name.as_str() == "TestModule"
-            && copy.tagging_environment == TaggingEnvironment::Automatic,
-    )
-}
-
 #[test]
-fn of_readings(rt: HostRuntime) -> Result<(), Fail> {
+fn of_identifiers(rt: HostRuntime) -> Result<(), Fail> {
     let alloc = rt.alloc();
-    let reading = copy_reading(alloc, &reading_of(alloc, WHOLE)?)?;
-    assert_eq!(rt; reading.len(), 1);
-    let (header, definitions) = reading.get(0).ok_or("a module")?;
-    assert!(rt; is_header_copied(alloc, header)?);
-    assert_eq!(rt; definitions.len(), 1);
+    assert!(rt; is_copied(alloc, Text::new(alloc, "a"))?);
+    assert!(rt; is_copied_by(alloc, copy_list::<Text>, list(alloc, Text::new(alloc, "a")))?);
+    assert!(rt; is_copied(alloc, arc(alloc))?);
+    assert!(rt; is_copied_by(alloc, copy_object_identifier_value, identifier(alloc))?);
+    assert!(rt; is_copied_by(alloc, copy_definitive_identifier, definitive(alloc))?);
+    assert!(rt; is_copied_by(alloc, copy_external_value_reference, external(alloc))?);
+    assert!(rt; is_copied_by(alloc, copy_assigned_identifier, assigned(alloc))?);
     Ok(())
 }
 
-fn range_of_type(alloc: Global, ty: &ASN1Type) -> Mem<Option<(i128, i128)>> {
-    Ok(range_in(&copy_asn1_type(alloc, ty)?))
-}
-
-fn range_of_integer(alloc: Global, integer: &Integer) -> Mem<Option<(i128, i128)>> {
-    let copy = copy_integer(alloc, integer)?;
-    let constraints = copy_list(alloc, &copy.constraints)?;
-    Ok(constraints.get(0).and_then(range_of))
-}
-
-fn name_of_type_definition(alloc: Global, definition: &ToplevelTypeDefinition) -> Mem<bool> {
-    let copy = copy_toplevel_type_definition(alloc, definition)?;
-    Ok(copy.name.as_str() == "My-test-integer")
-}
-
 #[test]
-fn of_definitions(rt: HostRuntime) -> Result<(), Fail> {
+fn of_headers(rt: HostRuntime) -> Result<(), Fail> {
     let alloc = rt.alloc();
-    let reading = reading_of(alloc, WHOLE)?;
-    let definition = first_definition(&reading).ok_or("a definition")?;
-    assert!(rt; name_of_type_definition(alloc, definition)?);
-    assert_eq!(rt; range_of_type(alloc, &definition.ty)?, Some((1, 128)));
-    let integer = integer_in(&definition.ty).ok_or("an integer")?;
-    assert_eq!(rt; range_of_integer(alloc, integer)?, Some((1, 128)));
+    assert!(rt; is_copied_by(alloc, copy_global_module_reference, global(alloc))?);
+    assert!(rt; is_copied(alloc, import(alloc))?);
+    assert!(rt; is_copied_by(alloc, copy_exports, exports(alloc))?);
+    assert!(rt; is_copied_by(alloc, copy_encoding_reference_default, encoding(alloc))?);
+    assert!(rt; is_copied(alloc, header(alloc))?);
     Ok(())
 }
 
-fn range_of_constraint(alloc: Global, constraint: &Constraint) -> Mem<Option<(i128, i128)>> {
-    Ok(range_of(&copy_constraint(alloc, constraint)?))
-}
-
-fn range_of_element(alloc: Global, element: &ElementOrSetOperation) -> Mem<Option<(i128, i128)>> {
-    let copy = copy_element_or_set_operation(alloc, element)?;
-    match element_in(&copy) {
-        Some(element) => Ok(ends_of(&copy_subtype_element(alloc, element)?)),
-        None => Ok(None),
-    }
-}
-
 #[test]
-fn of_constraints(rt: HostRuntime) -> Result<(), Fail> {
+fn of_faults(rt: HostRuntime) -> Result<(), Fail> {
     let alloc = rt.alloc();
-    let reading = reading_of(alloc, WHOLE)?;
-    let definition = first_definition(&reading).ok_or("a definition")?;
-    let integer = integer_in(&definition.ty).ok_or("an integer")?;
-    let constraint = integer.constraints.get(0).ok_or("a constraint")?;
-    assert_eq!(rt; range_of_constraint(alloc, constraint)?, Some((1, 128)));
-    let set = set_in(constraint).ok_or("a set")?;
-    assert_eq!(rt; range_of_element(alloc, &set.set)?, Some((1, 128)));
+    assert!(rt; is_copied(alloc, refusal(alloc))?);
+    assert!(rt; is_copied(alloc, warning(alloc))?);
+    assert!(rt; is_copied(alloc, fault(alloc))?);
     Ok(())
 }
 
 #[test]
 fn of_values(rt: HostRuntime) -> Result<(), Fail> {
-    let copy = copy_asn1_value(rt.alloc(), &ASN1Value::Integer(-7))?;
-    assert!(rt; matches!(copy, ASN1Value::Integer(-7)));
+    let alloc = rt.alloc();
+    assert!(rt; is_copied(alloc, chosen(alloc))?);
+    assert!(rt; is_copied_by(alloc, copy_struct_like_field_value, field_value(alloc))?);
+    assert!(rt; is_copied(alloc, linked_field(alloc))?);
     Ok(())
-}
-
-fn is_member_copied(alloc: Global, member: &SequenceOrSetMember) -> Mem<bool> {
-    let copy = copy_sequence_or_set_member(alloc, member)?;
-    Ok(copy.name.as_str() == "b" && !copy.is_optional && copy.tag.is_none())
-}
-
-fn is_sequence_copied(alloc: Global, sequence: &SequenceOrSet) -> Mem<bool> {
-    let copy = copy_sequence_or_set(alloc, sequence)?;
-    Ok(copy.members.len() == 2 && copy.extensible == None)
 }
 
 #[test]
-fn of_sequences(rt: HostRuntime) -> Result<(), Fail> {
+fn of_sets(rt: HostRuntime) -> Result<(), Fail> {
     let alloc = rt.alloc();
-    let reading = reading_of(alloc, SEQUENCE)?;
-    let definition = first_definition(&reading).ok_or("a definition")?;
-    let sequence = sequence_in(&definition.ty).ok_or("a sequence")?;
-    assert!(rt; is_sequence_copied(alloc, sequence)?);
-    assert!(rt; is_member_copied(alloc, sequence.members.get(1).ok_or("a member")?)?);
+    assert!(rt; is_copied_by(alloc, copy_subtype_element, Ok(element()))?);
+    assert!(rt; is_copied_by(alloc, copy_element_or_set_operation, Ok(single_element()))?);
+    assert!(rt; is_copied_by(alloc, copy_element_set, Ok(element_set()))?);
+    assert!(rt; is_copied_by(alloc, copy_set_operation, operation(alloc))?);
+    assert!(rt; is_copied(alloc, Ok(constraint()))?);
+    assert!(rt; is_copied_by(alloc, copy_composite_constraint, composite(alloc))?);
+    assert!(rt; is_copied_by(alloc, copy_value_constraint, range(alloc))?);
     Ok(())
 }
 
-fn is_reference_copied(alloc: Global, reference: &DeclarationElsewhere) -> Mem<bool> {
-    let copy = copy_declaration_elsewhere(alloc, reference)?;
-    Ok(copy.identifier.as_str() == "B" && copy.parent.is_none())
+#[test]
+fn of_constraints(rt: HostRuntime) -> Result<(), Fail> {
+    let alloc = rt.alloc();
+    assert!(rt; is_copied(alloc, relational(alloc))?);
+    assert!(rt; is_copied_by(alloc, copy_table_constraint, table(alloc))?);
+    assert!(rt; is_copied_by(alloc, copy_pattern_constraint, pattern(alloc))?);
+    assert!(rt; is_copied_by(alloc, copy_user_defined_constraint, user_defined(alloc))?);
+    assert!(rt; is_copied(alloc, component(alloc))?);
+    assert!(rt; is_copied_by(alloc, copy_inner_type_constraint, inner(alloc))?);
+    assert!(rt; is_copied_by(alloc, copy_property_settings, property_settings(alloc))?);
+    assert!(rt; is_copied_by(alloc, copy_content_constraint, Ok(content()))?);
+    assert!(rt; is_copied(alloc, parameter(alloc))?);
+    Ok(())
 }
 
-// Whether a truth value's type and a type reference are copied as they are.
-fn are_copied(alloc: Global, first: &ASN1Type, second: &ASN1Type) -> Mem<bool> {
-    match (first, second) {
-        (ASN1Type::Boolean(boolean), ASN1Type::ElsewhereDeclaredType(reference)) => {
-            let copy = copy_boolean(alloc, boolean)?;
-            Ok(copy.constraints.is_empty() && is_reference_copied(alloc, reference)?)
-        }
-        _ => Ok(false),
-    }
+#[test]
+fn of_classes(rt: HostRuntime) -> Result<(), Fail> {
+    let alloc = rt.alloc();
+    assert!(rt; is_copied(alloc, field_name(alloc))?);
+    assert!(rt; is_copied_by(alloc, copy_syntax_token, token(alloc))?);
+    assert!(rt; is_copied_by(alloc, copy_syntax_expression, expression(alloc))?);
+    assert!(rt; is_copied_by(alloc, copy_information_object_syntax, syntax(alloc))?);
+    assert!(rt; is_copied(alloc, class_field(alloc))?);
+    assert!(rt; is_copied_by(alloc, copy_information_object_class, class(alloc))?);
+    assert!(rt; is_copied_by(alloc, copy_class_link, class_link(alloc))?);
+    Ok(())
+}
+
+#[test]
+fn of_objects(rt: HostRuntime) -> Result<(), Fail> {
+    let alloc = rt.alloc();
+    assert!(rt; is_copied(alloc, object_field(alloc))?);
+    assert!(rt; is_copied_by(alloc, copy_type_field, type_field(alloc))?);
+    assert!(rt; is_copied_by(alloc, copy_fixed_value_field, fixed_value_field(alloc))?);
+    assert!(rt; is_copied_by(alloc, copy_object_set_field, object_set_field(alloc))?);
+    assert!(rt; is_copied_by(alloc, copy_information_object_fields, fields(alloc))?);
+    assert!(rt; is_copied(alloc, application(alloc))?);
+    assert!(rt; is_copied_by(alloc, copy_information_object, object(alloc))?);
+    assert!(rt; is_copied(alloc, object_set_value(alloc))?);
+    assert!(rt; is_copied_by(alloc, copy_object_set, object_set(alloc))?);
+    assert!(rt; is_copied_by(alloc, copy_asn1_information, information(alloc))?);
+    assert!(rt;
+        is_copied_by(
+            alloc,
+            copy_information_object_field_reference,
+            field_reference(alloc)
+        )?
+    );
+    Ok(())
+}
+
+fn information(alloc: Global) -> Mem<ASN1Information> {
+    Ok(ASN1Information::ObjectSet(object_set(alloc)?))
 }
 
 #[test]
 fn of_simple_types(rt: HostRuntime) -> Result<(), Fail> {
     let alloc = rt.alloc();
-    let reading = reading_of(alloc, SEQUENCE)?;
-    let definition = first_definition(&reading).ok_or("a definition")?;
-    let sequence = sequence_in(&definition.ty).ok_or("a sequence")?;
-    let first = sequence.members.get(0).ok_or("a member")?;
-    let second = sequence.members.get(1).ok_or("a member")?;
-    assert!(rt; are_copied(alloc, &first.ty, &second.ty)?);
+    assert!(rt; is_copied_by(alloc, copy_boolean, boolean(alloc))?);
+    assert!(rt; is_copied(alloc, distinguished(alloc))?);
+    assert!(rt; is_copied_by(alloc, copy_integer, integer(alloc))?);
+    assert!(rt; is_copied_by(alloc, copy_real, real(alloc))?);
+    assert!(rt; is_copied_by(alloc, copy_bit_string, bit_string(alloc))?);
+    assert!(rt; is_copied_by(alloc, copy_octet_string, octet_string(alloc))?);
+    assert!(rt; is_copied_by(alloc, copy_object_identifier, object_identifier(alloc))?);
+    assert!(rt; is_copied_by(alloc, copy_time, time(alloc))?);
+    assert!(rt; is_copied_by(alloc, copy_generalized_time, generalized_time(alloc))?);
+    assert!(rt; is_copied_by(alloc, copy_utc_time, utc_time(alloc))?);
+    assert!(rt; is_copied_by(alloc, copy_character_string, character_string(alloc))?);
+    Ok(())
+}
+
+#[test]
+fn of_types(rt: HostRuntime) -> Result<(), Fail> {
+    let alloc = rt.alloc();
+    assert!(rt; is_copied(alloc, member(alloc))?);
+    assert!(rt; is_copied_by(alloc, copy_sequence_component, member_component(alloc))?);
+    assert!(rt; is_copied_by(alloc, copy_sequence_or_set, sequence(alloc))?);
+    assert!(rt; is_copied_by(alloc, copy_sequence_or_set_of, list_type(alloc))?);
+    assert!(rt; is_copied(alloc, choice_option(alloc))?);
+    assert!(rt; is_copied_by(alloc, copy_choice, choice(alloc))?);
+    assert!(rt; is_copied(alloc, enumeral(alloc))?);
+    assert!(rt; is_copied_by(alloc, copy_enumerated, enumerated(alloc))?);
+    assert!(rt; is_copied_by(alloc, copy_choice_selection_type, selection(alloc))?);
+    assert!(rt; is_copied_by(alloc, copy_declaration_elsewhere, reference(alloc))?);
+    assert!(rt; is_copied_by(alloc, copy_asn1_type, any_type(alloc))?);
+    Ok(())
+}
+
+fn any_type(alloc: Global) -> Mem<ASN1Type> {
+    Ok(ASN1Type::Sequence(sequence(alloc)?))
+}
+
+fn governor() -> Mem<ParameterGovernor> {
+    Ok(ParameterGovernor::TypeOrClass(ASN1Type::Null))
+}
+
+#[test]
+fn of_definitions(rt: HostRuntime) -> Result<(), Fail> {
+    let alloc = rt.alloc();
+    assert!(rt; is_copied_by(alloc, copy_parameter_governor, governor())?);
+    assert!(rt; is_copied(alloc, argument(alloc))?);
+    assert!(rt; is_copied_by(alloc, copy_parameterization, parameterization(alloc))?);
+    assert!(rt; is_copied_by(alloc, copy_toplevel_type_definition, type_definition(alloc))?);
+    assert!(rt;
+        is_copied_by(
+            alloc,
+            copy_toplevel_value_definition,
+            value_definition(alloc)
+        )?
+    );
+    assert!(rt;
+        is_copied_by(
+            alloc,
+            copy_toplevel_information_definition,
+            class_definition(alloc)
+        )?
+    );
+    assert!(rt; is_copied(alloc, definition(alloc))?);
+    assert!(rt; is_copied_by(alloc, copy_reading, reading(alloc))?);
     Ok(())
 }
