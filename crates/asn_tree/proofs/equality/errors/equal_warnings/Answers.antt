@@ -34,6 +34,6 @@ returns c =
     let x = c.args.left.now in
     let y = c.args.right.now in
     let d = Decides-and _ _ (option_decides (pointwise nat_eq) text_decides x.pdu y.pdu)
-        (Decides-and _ _ (text_decides x.details.now y.details.now)
-            (Decides-and _ _ (kind_decides x.kind y.kind) (option_decides grammars.eq-value.it grammar_decides x.grammar y.grammar))) in
+    (Decides-and _ _ (text_decides x.details.now y.details.now)
+    (Decides-and _ _ (kind_decides x.kind y.kind) (option_decides grammars.eq-value.it grammar_decides x.grammar y.grammar))) in
     (λ is. let p = d.0 is in (p.0, p.1.0, p.1.1.0, p.1.1.1), λ same. d.1 (same.0, (same.1, (same.2, same.3))))
