@@ -103,6 +103,12 @@ pub fn copy_content_constraint(alloc: Global, value: &ContentConstraint) -> Mem<
     }
 }
 
+impl CopyTree for ContentConstraint {
+    fn copy_tree(&self, alloc: Global) -> Mem<ContentConstraint> {
+        copy_content_constraint(alloc, self)
+    }
+}
+
 /// A copy of an argument of a template.
 ///
 /// Err: want of memory.
@@ -162,6 +168,12 @@ pub fn copy_element_or_set_operation(
     }
 }
 
+impl CopyTree for ElementOrSetOperation {
+    fn copy_tree(&self, alloc: Global) -> Mem<ElementOrSetOperation> {
+        copy_element_or_set_operation(alloc, self)
+    }
+}
+
 /// A copy of an element, an operator, and what stands behind it.
 ///
 /// Err: want of memory.
@@ -181,6 +193,12 @@ pub fn copy_set_operation(alloc: Global, value: &SetOperation) -> Mem<SetOperati
         operator: value.operator,
         operant,
     })
+}
+
+impl CopyTree for SetOperation {
+    fn copy_tree(&self, alloc: Global) -> Mem<SetOperation> {
+        copy_set_operation(alloc, self)
+    }
 }
 
 /// A copy of a subtype element.
@@ -265,6 +283,12 @@ pub fn copy_subtype_element(alloc: Global, value: &SubtypeElement) -> Mem<Subtyp
     }
 }
 
+impl CopyTree for SubtypeElement {
+    fn copy_tree(&self, alloc: Global) -> Mem<SubtypeElement> {
+        copy_subtype_element(alloc, self)
+    }
+}
+
 /// A copy of a pattern.
 ///
 /// Err: want of memory.
@@ -274,6 +298,12 @@ pub fn copy_pattern_constraint(alloc: Global, value: &PatternConstraint) -> Mem<
     Ok(PatternConstraint {
         pattern: copy_text(alloc, &value.pattern)?,
     })
+}
+
+impl CopyTree for PatternConstraint {
+    fn copy_tree(&self, alloc: Global) -> Mem<PatternConstraint> {
+        copy_pattern_constraint(alloc, self)
+    }
 }
 
 /// A copy of a constraint that the notation does not tell.
@@ -290,6 +320,12 @@ pub fn copy_user_defined_constraint(
     })
 }
 
+impl CopyTree for UserDefinedConstraint {
+    fn copy_tree(&self, alloc: Global) -> Mem<UserDefinedConstraint> {
+        copy_user_defined_constraint(alloc, self)
+    }
+}
+
 /// A copy of the settings that a constraint asks for.
 ///
 /// Err: want of memory.
@@ -299,6 +335,12 @@ pub fn copy_property_settings(alloc: Global, value: &PropertySettings) -> Mem<Pr
     Ok(PropertySettings {
         property_settings_list: copy_list(alloc, &value.property_settings_list)?,
     })
+}
+
+impl CopyTree for PropertySettings {
+    fn copy_tree(&self, alloc: Global) -> Mem<PropertySettings> {
+        copy_property_settings(alloc, self)
+    }
 }
 
 impl CopyTree for PropertyAndSettingsPair {
@@ -344,6 +386,12 @@ pub fn copy_table_constraint(alloc: Global, value: &TableConstraint) -> Mem<Tabl
     })
 }
 
+impl CopyTree for TableConstraint {
+    fn copy_tree(&self, alloc: Global) -> Mem<TableConstraint> {
+        copy_table_constraint(alloc, self)
+    }
+}
+
 /// A copy of an element set.
 ///
 /// Err: want of memory.
@@ -354,6 +402,12 @@ pub fn copy_element_set(alloc: Global, value: &ElementSet) -> Mem<ElementSet>
         set: copy_element_or_set_operation(alloc, &value.set)?,
         extensible: value.extensible,
     })
+}
+
+impl CopyTree for ElementSet {
+    fn copy_tree(&self, alloc: Global) -> Mem<ElementSet> {
+        copy_element_set(alloc, self)
+    }
 }
 
 /// A copy of a listed component.
@@ -397,6 +451,12 @@ pub fn copy_inner_type_constraint(
     })
 }
 
+impl CopyTree for InnerTypeConstraint {
+    fn copy_tree(&self, alloc: Global) -> Mem<InnerTypeConstraint> {
+        copy_inner_type_constraint(alloc, self)
+    }
+}
+
 impl CopyTree for (SetOperator, Box<Constraint>) {
     fn copy_tree(&self, alloc: Global) -> Mem<(SetOperator, Box<Constraint>)> {
         let constraint = boxed(alloc, copy_constraint(alloc, self.1.get()))?;
@@ -424,6 +484,12 @@ pub fn copy_composite_constraint(
     })
 }
 
+impl CopyTree for CompositeConstraint {
+    fn copy_tree(&self, alloc: Global) -> Mem<CompositeConstraint> {
+        copy_composite_constraint(alloc, self)
+    }
+}
+
 /// A copy of a range of values.
 ///
 /// Err: want of memory.
@@ -439,4 +505,10 @@ pub fn copy_value_constraint(alloc: Global, value: &ValueConstraint) -> Mem<Valu
         max_value,
         extensible: value.extensible,
     })
+}
+
+impl CopyTree for ValueConstraint {
+    fn copy_tree(&self, alloc: Global) -> Mem<ValueConstraint> {
+        copy_value_constraint(alloc, self)
+    }
 }

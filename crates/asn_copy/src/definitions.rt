@@ -31,6 +31,12 @@ pub fn copy_parameter_governor(alloc: Global, value: &ParameterGovernor) -> Mem<
     }
 }
 
+impl CopyTree for ParameterGovernor {
+    fn copy_tree(&self, alloc: Global) -> Mem<ParameterGovernor> {
+        copy_parameter_governor(alloc, self)
+    }
+}
+
 /// A copy of a dummy reference with its governor.
 ///
 /// Err: want of memory.
@@ -65,6 +71,12 @@ pub fn copy_parameterization(alloc: Global, value: &Parameterization) -> Mem<Par
     Ok(Parameterization {
         parameters: copy_list(alloc, &value.parameters)?,
     })
+}
+
+impl CopyTree for Parameterization {
+    fn copy_tree(&self, alloc: Global) -> Mem<Parameterization> {
+        copy_parameterization(alloc, self)
+    }
 }
 
 fn copy_optional_parameterization(
@@ -108,6 +120,12 @@ pub fn copy_toplevel_type_definition(
     })
 }
 
+impl CopyTree for ToplevelTypeDefinition {
+    fn copy_tree(&self, alloc: Global) -> Mem<ToplevelTypeDefinition> {
+        copy_toplevel_type_definition(alloc, self)
+    }
+}
+
 /// A copy of a value definition.
 ///
 /// Err: want of memory.
@@ -138,6 +156,12 @@ pub fn copy_toplevel_value_definition(
         value: assigned,
         index: value.index,
     })
+}
+
+impl CopyTree for ToplevelValueDefinition {
+    fn copy_tree(&self, alloc: Global) -> Mem<ToplevelValueDefinition> {
+        copy_toplevel_value_definition(alloc, self)
+    }
 }
 
 fn copy_optional_class(alloc: Global, value: &Option<ClassLink>) -> Mem<Option<ClassLink>>
@@ -179,6 +203,12 @@ pub fn copy_toplevel_information_definition(
         value: information,
         index: value.index,
     })
+}
+
+impl CopyTree for ToplevelInformationDefinition {
+    fn copy_tree(&self, alloc: Global) -> Mem<ToplevelInformationDefinition> {
+        copy_toplevel_information_definition(alloc, self)
+    }
 }
 
 /// A copy of a definition.

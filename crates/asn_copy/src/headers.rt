@@ -69,6 +69,12 @@ pub fn copy_object_identifier_value(
     Ok(ObjectIdentifierValue(copy_list(alloc, &value.0)?))
 }
 
+impl CopyTree for ObjectIdentifierValue {
+    fn copy_tree(&self, alloc: Global) -> Mem<ObjectIdentifierValue> {
+        copy_object_identifier_value(alloc, self)
+    }
+}
+
 /// A copy of the object identifier that names a module.
 ///
 /// Err: want of memory.
@@ -90,6 +96,12 @@ pub fn copy_definitive_identifier(
     }
 }
 
+impl CopyTree for DefinitiveIdentifier {
+    fn copy_tree(&self, alloc: Global) -> Mem<DefinitiveIdentifier> {
+        copy_definitive_identifier(alloc, self)
+    }
+}
+
 /// A copy of an encoding reference.
 ///
 /// Err: want of memory.
@@ -100,6 +112,12 @@ pub fn copy_encoding_reference_default(
     ensures { IfOk result (λ copy. copy ≡ value.now) }
 {
     Ok(EncodingReferenceDefault(copy_text(alloc, &value.0)?))
+}
+
+impl CopyTree for EncodingReferenceDefault {
+    fn copy_tree(&self, alloc: Global) -> Mem<EncodingReferenceDefault> {
+        copy_encoding_reference_default(alloc, self)
+    }
 }
 
 /// A copy of a value reference with its module's name.
@@ -115,6 +133,12 @@ pub fn copy_external_value_reference(
         module_reference: copy_text(alloc, &value.module_reference)?,
         value_reference: copy_text(alloc, &value.value_reference)?,
     })
+}
+
+impl CopyTree for ExternalValueReference {
+    fn copy_tree(&self, alloc: Global) -> Mem<ExternalValueReference> {
+        copy_external_value_reference(alloc, self)
+    }
 }
 
 /// A copy of the identifier assigned to an imported module.
@@ -153,6 +177,12 @@ pub fn copy_assigned_identifier(
     }
 }
 
+impl CopyTree for AssignedIdentifier {
+    fn copy_tree(&self, alloc: Global) -> Mem<AssignedIdentifier> {
+        copy_assigned_identifier(alloc, self)
+    }
+}
+
 /// A copy of the module that an import names.
 ///
 /// Err: want of memory.
@@ -168,6 +198,12 @@ pub fn copy_global_module_reference(
         module_reference,
         assigned_identifier,
     })
+}
+
+impl CopyTree for GlobalModuleReference {
+    fn copy_tree(&self, alloc: Global) -> Mem<GlobalModuleReference> {
+        copy_global_module_reference(alloc, self)
+    }
 }
 
 /// A copy of an import.
@@ -200,6 +236,12 @@ pub fn copy_exports(alloc: Global, value: &Exports) -> Mem<Exports>
     match value {
         Exports::Identifier(names) => Ok(Exports::Identifier(copy_list(alloc, names)?)),
         Exports::All => Ok(Exports::All),
+    }
+}
+
+impl CopyTree for Exports {
+    fn copy_tree(&self, alloc: Global) -> Mem<Exports> {
+        copy_exports(alloc, self)
     }
 }
 

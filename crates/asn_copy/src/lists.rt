@@ -30,6 +30,12 @@ pub fn copy_list<T: CopyTree>(alloc: Global, list: &List<T>) -> Mem<List<T>>
     Ok(copies)
 }
 
+impl<T: CopyTree> CopyTree for List<T> {
+    fn copy_tree(&self, alloc: Global) -> Mem<List<T>> {
+        copy_list(alloc, self)
+    }
+}
+
 /// A copy of a list that may be absent.
 ///
 /// Err: want of memory.

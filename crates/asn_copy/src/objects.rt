@@ -63,6 +63,12 @@ pub fn copy_information_object_fields(
     }
 }
 
+impl CopyTree for InformationObjectFields {
+    fn copy_tree(&self, alloc: Global) -> Mem<InformationObjectFields> {
+        copy_information_object_fields(alloc, self)
+    }
+}
+
 #[cycle(copying)]
 fn copy_object_fields(
     alloc: Global,
@@ -237,6 +243,12 @@ pub fn copy_object_set(alloc: Global, value: &ObjectSet) -> Mem<ObjectSet>
     })
 }
 
+impl CopyTree for ObjectSet {
+    fn copy_tree(&self, alloc: Global) -> Mem<ObjectSet> {
+        copy_object_set(alloc, self)
+    }
+}
+
 /// A copy of a field that is a value.
 ///
 /// Err: want of memory.
@@ -248,6 +260,12 @@ pub fn copy_fixed_value_field(alloc: Global, value: &FixedValueField) -> Mem<Fix
         copy_asn1_value(alloc, &value.value),
     )?;
     Ok(FixedValueField { identifier, value })
+}
+
+impl CopyTree for FixedValueField {
+    fn copy_tree(&self, alloc: Global) -> Mem<FixedValueField> {
+        copy_fixed_value_field(alloc, self)
+    }
 }
 
 /// A copy of a field that is a type.
@@ -263,6 +281,12 @@ pub fn copy_type_field(alloc: Global, value: &TypeField) -> Mem<TypeField>
     Ok(TypeField { identifier, ty })
 }
 
+impl CopyTree for TypeField {
+    fn copy_tree(&self, alloc: Global) -> Mem<TypeField> {
+        copy_type_field(alloc, self)
+    }
+}
+
 /// A copy of a field that is an object set.
 ///
 /// Err: want of memory.
@@ -274,6 +298,12 @@ pub fn copy_object_set_field(alloc: Global, value: &ObjectSetField) -> Mem<Objec
         copy_object_set(alloc, &value.value),
     )?;
     Ok(ObjectSetField { identifier, value })
+}
+
+impl CopyTree for ObjectSetField {
+    fn copy_tree(&self, alloc: Global) -> Mem<ObjectSetField> {
+        copy_object_set_field(alloc, self)
+    }
 }
 
 /// A copy of the type of a class's field.
@@ -299,6 +329,12 @@ pub fn copy_information_object_field_reference(
     })
 }
 
+impl CopyTree for InformationObjectFieldReference {
+    fn copy_tree(&self, alloc: Global) -> Mem<InformationObjectFieldReference> {
+        copy_information_object_field_reference(alloc, self)
+    }
+}
+
 /// A copy of an object.
 ///
 /// Err: want of memory.
@@ -310,6 +346,12 @@ pub fn copy_information_object(alloc: Global, value: &InformationObject) -> Mem<
         copy_information_object_fields(alloc, &value.fields),
     )?;
     Ok(InformationObject { class_name, fields })
+}
+
+impl CopyTree for InformationObject {
+    fn copy_tree(&self, alloc: Global) -> Mem<InformationObject> {
+        copy_information_object(alloc, self)
+    }
 }
 
 /// A copy of a token of a class's own syntax.
@@ -327,6 +369,12 @@ pub fn copy_syntax_token(alloc: Global, value: &SyntaxToken) -> Mem<SyntaxToken>
     }
 }
 
+impl CopyTree for SyntaxToken {
+    fn copy_tree(&self, alloc: Global) -> Mem<SyntaxToken> {
+        copy_syntax_token(alloc, self)
+    }
+}
+
 /// A copy of a part of a class's own syntax.
 ///
 /// Err: want of memory.
@@ -341,6 +389,12 @@ pub fn copy_syntax_expression(alloc: Global, value: &SyntaxExpression) -> Mem<Sy
         SyntaxExpression::Optional(group) => {
             Ok(SyntaxExpression::Optional(copy_syntax_expressions(alloc, group)?))
         }
+    }
+}
+
+impl CopyTree for SyntaxExpression {
+    fn copy_tree(&self, alloc: Global) -> Mem<SyntaxExpression> {
+        copy_syntax_expression(alloc, self)
     }
 }
 
@@ -370,6 +424,12 @@ pub fn copy_information_object_syntax(
     Ok(InformationObjectSyntax {
         expressions: copy_syntax_expressions(alloc, &value.expressions)?,
     })
+}
+
+impl CopyTree for InformationObjectSyntax {
+    fn copy_tree(&self, alloc: Global) -> Mem<InformationObjectSyntax> {
+        copy_information_object_syntax(alloc, self)
+    }
 }
 
 fn copy_optional_syntax(
@@ -440,6 +500,12 @@ pub fn copy_information_object_class(
     Ok(InformationObjectClass { fields, syntax })
 }
 
+impl CopyTree for InformationObjectClass {
+    fn copy_tree(&self, alloc: Global) -> Mem<InformationObjectClass> {
+        copy_information_object_class(alloc, self)
+    }
+}
+
 /// A copy of the class of an object or an object set.
 ///
 /// Err: want of memory.
@@ -455,6 +521,12 @@ pub fn copy_class_link(alloc: Global, value: &ClassLink) -> Mem<ClassLink>
             )?;
             Ok(ClassLink::ByReference(name, class))
         }
+    }
+}
+
+impl CopyTree for ClassLink {
+    fn copy_tree(&self, alloc: Global) -> Mem<ClassLink> {
+        copy_class_link(alloc, self)
     }
 }
 
@@ -474,5 +546,11 @@ pub fn copy_asn1_information(alloc: Global, value: &ASN1Information) -> Mem<ASN1
         ASN1Information::Object(object) => {
             Ok(ASN1Information::Object(copy_information_object(alloc, object)?))
         }
+    }
+}
+
+impl CopyTree for ASN1Information {
+    fn copy_tree(&self, alloc: Global) -> Mem<ASN1Information> {
+        copy_asn1_information(alloc, self)
     }
 }

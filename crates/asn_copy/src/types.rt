@@ -78,6 +78,12 @@ pub fn copy_choice_selection_type(
     })
 }
 
+impl CopyTree for ChoiceSelectionType {
+    fn copy_tree(&self, alloc: Global) -> Mem<ChoiceSelectionType> {
+        copy_choice_selection_type(alloc, self)
+    }
+}
+
 /// A copy of a type.
 ///
 /// Err: want of memory.
@@ -188,6 +194,12 @@ pub fn copy_asn1_type(alloc: Global, value: &ASN1Type) -> Mem<ASN1Type>
     }
 }
 
+impl CopyTree for ASN1Type {
+    fn copy_tree(&self, alloc: Global) -> Mem<ASN1Type> {
+        copy_asn1_type(alloc, self)
+    }
+}
+
 /// A copy of a SEQUENCE OF or SET OF.
 ///
 /// Err: want of memory.
@@ -204,6 +216,12 @@ pub fn copy_sequence_or_set_of(alloc: Global, value: &SequenceOrSetOf) -> Mem<Se
         element_type,
         is_recursive: value.is_recursive,
     })
+}
+
+impl CopyTree for SequenceOrSetOf {
+    fn copy_tree(&self, alloc: Global) -> Mem<SequenceOrSetOf> {
+        copy_sequence_or_set_of(alloc, self)
+    }
 }
 
 /// A copy of a SEQUENCE or SET.
@@ -230,6 +248,12 @@ pub fn copy_sequence_or_set(alloc: Global, value: &SequenceOrSet) -> Mem<Sequenc
         constraints,
         members,
     })
+}
+
+impl CopyTree for SequenceOrSet {
+    fn copy_tree(&self, alloc: Global) -> Mem<SequenceOrSet> {
+        copy_sequence_or_set(alloc, self)
+    }
 }
 
 #[cycle(copying)]
@@ -299,6 +323,12 @@ pub fn copy_sequence_component(alloc: Global, value: &SequenceComponent) -> Mem<
     }
 }
 
+impl CopyTree for SequenceComponent {
+    fn copy_tree(&self, alloc: Global) -> Mem<SequenceComponent> {
+        copy_sequence_component(alloc, self)
+    }
+}
+
 /// A copy of a CHOICE.
 ///
 /// Err: want of memory.
@@ -315,6 +345,12 @@ pub fn copy_choice(alloc: Global, value: &Choice) -> Mem<Choice>
         options,
         constraints,
     })
+}
+
+impl CopyTree for Choice {
+    fn copy_tree(&self, alloc: Global) -> Mem<Choice> {
+        copy_choice(alloc, self)
+    }
 }
 
 #[cycle(copying)]
@@ -368,6 +404,12 @@ pub fn copy_boolean(alloc: Global, value: &Boolean) -> Mem<Boolean>
     })
 }
 
+impl CopyTree for Boolean {
+    fn copy_tree(&self, alloc: Global) -> Mem<Boolean> {
+        copy_boolean(alloc, self)
+    }
+}
+
 /// A copy of an INTEGER.
 ///
 /// Err: want of memory.
@@ -384,6 +426,12 @@ pub fn copy_integer(alloc: Global, value: &Integer) -> Mem<Integer>
     })
 }
 
+impl CopyTree for Integer {
+    fn copy_tree(&self, alloc: Global) -> Mem<Integer> {
+        copy_integer(alloc, self)
+    }
+}
+
 /// A copy of a REAL.
 ///
 /// Err: want of memory.
@@ -393,6 +441,12 @@ pub fn copy_real(alloc: Global, value: &Real) -> Mem<Real>
     Ok(Real {
         constraints: copy_constraints(alloc, &value.constraints)?,
     })
+}
+
+impl CopyTree for Real {
+    fn copy_tree(&self, alloc: Global) -> Mem<Real> {
+        copy_real(alloc, self)
+    }
 }
 
 /// A copy of a GeneralizedTime.
@@ -406,6 +460,12 @@ pub fn copy_generalized_time(alloc: Global, value: &GeneralizedTime) -> Mem<Gene
     })
 }
 
+impl CopyTree for GeneralizedTime {
+    fn copy_tree(&self, alloc: Global) -> Mem<GeneralizedTime> {
+        copy_generalized_time(alloc, self)
+    }
+}
+
 /// A copy of a UTCTime.
 ///
 /// Err: want of memory.
@@ -415,6 +475,12 @@ pub fn copy_utc_time(alloc: Global, value: &UTCTime) -> Mem<UTCTime>
     Ok(UTCTime {
         constraints: copy_constraints(alloc, &value.constraints)?,
     })
+}
+
+impl CopyTree for UTCTime {
+    fn copy_tree(&self, alloc: Global) -> Mem<UTCTime> {
+        copy_utc_time(alloc, self)
+    }
 }
 
 /// A copy of a TIME.
@@ -428,6 +494,12 @@ pub fn copy_time(alloc: Global, value: &Time) -> Mem<Time>
     })
 }
 
+impl CopyTree for Time {
+    fn copy_tree(&self, alloc: Global) -> Mem<Time> {
+        copy_time(alloc, self)
+    }
+}
+
 /// A copy of an OCTET STRING.
 ///
 /// Err: want of memory.
@@ -437,6 +509,12 @@ pub fn copy_octet_string(alloc: Global, value: &OctetString) -> Mem<OctetString>
     Ok(OctetString {
         constraints: copy_constraints(alloc, &value.constraints)?,
     })
+}
+
+impl CopyTree for OctetString {
+    fn copy_tree(&self, alloc: Global) -> Mem<OctetString> {
+        copy_octet_string(alloc, self)
+    }
 }
 
 /// A copy of a BIT STRING.
@@ -455,6 +533,12 @@ pub fn copy_bit_string(alloc: Global, value: &BitString) -> Mem<BitString>
     })
 }
 
+impl CopyTree for BitString {
+    fn copy_tree(&self, alloc: Global) -> Mem<BitString> {
+        copy_bit_string(alloc, self)
+    }
+}
+
 /// A copy of an OBJECT IDENTIFIER.
 ///
 /// Err: want of memory.
@@ -464,6 +548,12 @@ pub fn copy_object_identifier(alloc: Global, value: &ObjectIdentifier) -> Mem<Ob
     Ok(ObjectIdentifier {
         constraints: copy_constraints(alloc, &value.constraints)?,
     })
+}
+
+impl CopyTree for ObjectIdentifier {
+    fn copy_tree(&self, alloc: Global) -> Mem<ObjectIdentifier> {
+        copy_object_identifier(alloc, self)
+    }
 }
 
 /// A copy of a character string type.
@@ -476,6 +566,12 @@ pub fn copy_character_string(alloc: Global, value: &CharacterString) -> Mem<Char
         constraints: copy_constraints(alloc, &value.constraints)?,
         ty: value.ty,
     })
+}
+
+impl CopyTree for CharacterString {
+    fn copy_tree(&self, alloc: Global) -> Mem<CharacterString> {
+        copy_character_string(alloc, self)
+    }
 }
 
 /// A copy of an ENUMERATED.
@@ -493,6 +589,12 @@ pub fn copy_enumerated(alloc: Global, value: &Enumerated) -> Mem<Enumerated>
         extensible: value.extensible,
         constraints,
     })
+}
+
+impl CopyTree for Enumerated {
+    fn copy_tree(&self, alloc: Global) -> Mem<Enumerated> {
+        copy_enumerated(alloc, self)
+    }
 }
 
 /// A copy of a type reference.
@@ -516,4 +618,10 @@ pub fn copy_declaration_elsewhere(
         identifier,
         constraints,
     })
+}
+
+impl CopyTree for DeclarationElsewhere {
+    fn copy_tree(&self, alloc: Global) -> Mem<DeclarationElsewhere> {
+        copy_declaration_elsewhere(alloc, self)
+    }
 }

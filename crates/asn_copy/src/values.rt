@@ -239,3 +239,9 @@ pub fn copy_struct_like_field_value(
         )?)),
     }
 }
+
+impl CopyTree for StructLikeFieldValue {
+    fn copy_tree(&self, alloc: Global) -> Mem<StructLikeFieldValue> {
+        copy_struct_like_field_value(alloc, self)
+    }
+}

@@ -18,18 +18,6 @@ pub fn is_copied<T: CopyTree + PartialEq>(alloc: Global, tree: Mem<T>) -> Mem<bo
     Ok(tree.copy_tree(alloc)? == tree)
 }
 
-/// Whether this call answers a copy of a tree that is that tree.
-pub fn is_copied_by<T: PartialEq + Drop, F: Fn(Global, &T) -> Mem<T>>(
-    alloc: Global,
-    copy: F,
-    tree: Mem<T>,
-) -> Mem<bool>
-    requires { F.IsAlwaysCallable copy }
-{
-    let tree = tree?;
-    Ok(copy(alloc, &tree)? == tree)
-}
-
 /// Both trees.
 pub fn both<A: Drop, B: Drop>(first: Mem<A>, second: Mem<B>) -> Mem<(A, B)> {
     Ok((first?, second?))
