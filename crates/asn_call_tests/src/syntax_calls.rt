@@ -1,16 +1,15 @@
 //! Calls on the own syntax of classes, on the objects that are written in it, and on the names and types of members.
 
-use crate::readings::reading_of;
 use asn_calls::{
     ASN1TypeCalls, InformationObjectFieldCalls, InformationObjectSyntaxCalls, IterNameTypes,
     NameTypes, SyntaxApplicationCalls, SyntaxTokenCalls,
 };
-use asn_copy_tests::parts::{first_definition, sequence_in};
 use asn_memory::{List, Mem, Text};
 use asn_tree::{
     ASN1Type, ASN1Value, Choice, ChoiceOption, DeclarationElsewhere, FixedValueField,
     InformationObjectField, InformationObjectSyntax, ObjectFieldIdentifier, ObjectSet,
-    ObjectSetField, SyntaxApplication, SyntaxExpression, SyntaxToken, TypeField,
+    ObjectSetField, SequenceOrSet, SequenceOrSetMember, SyntaxApplication, SyntaxExpression,
+    SyntaxToken, TypeField,
 };
 use std::alloc::Global;
 use std::test::Fail;
@@ -316,15 +315,6 @@ fn has_a_and_b<T: IterNameTypes>(parts: &T) -> bool {
     are_a_and_b(parts.iter_name_types()) && parts.iter_name_types().count() == 2
 }
 
-#[test]
-fn names_of_members(rt: HostRuntime) -> Result<(), Fail> {
-    let text = "M DEFINITIONS ::= BEGIN A ::= SEQUENCE { a BOOLEAN, b B } END";
-    let reading = reading_of(rt.alloc(), text)?;
-    let definition = first_definition(&reading).ok_or("a definition")?;
-    assert!(rt; has_a_and_b(sequence_in(&definition.ty).ok_or("a sequence")?));
-    Ok(())
-}
-
 // A list of two. It is proved once for any type, so that no proof goes through the drops of trees.
 fn two<T: Drop>(alloc: Global, first: Mem<T>, second: Mem<T>) -> Mem<List<T>> {
     let (first, second) = (first?, second?);
@@ -333,13 +323,37 @@ fn two<T: Drop>(alloc: Global, first: Mem<T>, second: Mem<T>) -> Mem<List<T>> {
     Ok(list)
 }
 
+fn null_member(alloc: Global) -> Mem<SequenceOrSetMember> {
+    SequenceOrSetMember::from_parts(alloc, "a", None, ASN1Type::Null, None, None, None)
+}
+
+fn reference_to_b(alloc: Global) -> Mem<ASN1Type> {
+    let reference = DeclarationElsewhere::from_parts(alloc, None, "B", None)?;
+    Ok(ASN1Type::ElsewhereDeclaredType(reference))
+}
+
+fn reference_member(alloc: Global) -> Mem<SequenceOrSetMember> {
+    let ty = reference_to_b(alloc)?;
+    SequenceOrSetMember::from_parts(alloc, "b", None, ty, None, None, None)
+}
+
+fn sequence(alloc: Global) -> Mem<SequenceOrSet> {
+    let members = two(alloc, null_member(alloc), reference_member(alloc))?;
+    SequenceOrSet::from_members(alloc, (members, None, None), None)
+}
+
+#[test]
+fn names_of_members(rt: HostRuntime) -> Result<(), Fail> {
+    assert!(rt; has_a_and_b(&sequence(rt.alloc())?));
+    Ok(())
+}
+
 fn null_option(alloc: Global) -> Mem<ChoiceOption> {
     ChoiceOption::from_parts(alloc, "a", None, ASN1Type::Null, None)
 }
 
 fn reference_option(alloc: Global) -> Mem<ChoiceOption> {
-    let reference = DeclarationElsewhere::from_parts(alloc, None, "B", None)?;
-    let ty = ASN1Type::ElsewhereDeclaredType(reference);
+    let ty = reference_to_b(alloc)?;
     ChoiceOption::from_parts(alloc, "b", None, ty, None)
 }
 
