@@ -25,7 +25,7 @@ enum Told {
     Another,
 }
 
-fn told(answer: &Result<ASN1Value, LinkFault>) -> Told {
+fn what_is_told(answer: &Result<ASN1Value, LinkFault>) -> Told {
     match answer {
         Ok(ASN1Value::Integer(number)) => Told::Number(*number),
         Ok(ASN1Value::String(text)) => match text.as_str().as_bytes() {
@@ -44,8 +44,8 @@ fn compared(
     right: &ASN1Value,
     set: Option<&BTreeMap<usize, char>>,
 ) -> (Told, Told) {
-    let lesser = told(&left.min(alloc, right, set));
-    (lesser, told(&left.max(alloc, right, set)))
+    let lesser = what_is_told(&left.min(alloc, right, set));
+    (lesser, what_is_told(&left.max(alloc, right, set)))
 }
 
 fn compared_numbers(alloc: Global, left: i128, right: i128) -> (Told, Told) {
