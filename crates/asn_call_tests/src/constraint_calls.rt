@@ -1,10 +1,11 @@
 //! Calls on constraints: the least integer type, and the parts of a range and of a single value.
 
+use crate::parts::containing_null;
 use asn_calls::{ConstraintCalls, IntegerCalls};
 use asn_memory::{List, Mem};
 use asn_tree::{
-    ASN1Type, ASN1Value, Constraint, ContentConstraint, ElementOrSetOperation, ElementSet,
-    GrammarErrorType, Integer, IntegerType, SubtypeElement,
+    ASN1Value, Constraint, ElementOrSetOperation, ElementSet, GrammarErrorType, Integer,
+    IntegerType, SubtypeElement,
 };
 use std::alloc::Global;
 use std::test::Fail;
@@ -33,10 +34,6 @@ fn single(value: ASN1Value) -> Constraint {
         value,
         extensible: false,
     })
-}
-
-fn containing_null() -> Constraint {
-    Constraint::ContentConstraint(ContentConstraint::Containing(ASN1Type::Null))
 }
 
 fn holds_in(constraint: Constraint, ty: IntegerType) -> bool {

@@ -7,6 +7,7 @@
 mod calls;
 #[cfg(test)]
 mod constraint_calls;
+pub mod parts;
 #[cfg(test)]
 mod settings;
 #[cfg(test)]

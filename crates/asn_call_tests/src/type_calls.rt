@@ -1,14 +1,15 @@
 //! Calls on types: what they are called, which are built in, and their constraints.
 
+use crate::parts::containing_null;
 use asn_calls::{
     ASN1TypeCalls, Constrainable, InformationObjectFieldReferenceCalls, ObjectFieldIdentifierCalls,
 };
 use asn_memory::{List, Mem, Text};
 use asn_tree::{
     ASN1Type, BitString, Boolean, CharacterString, CharacterStringType, Choice,
-    ChoiceSelectionType, Constraint, ContentConstraint, DeclarationElsewhere, Enumerated,
-    GeneralizedTime, InformationObjectFieldReference, Integer, ObjectFieldIdentifier,
-    ObjectIdentifier, OctetString, Real, SequenceOrSet, SequenceOrSetOf, Time, UTCTime,
+    ChoiceSelectionType, Constraint, DeclarationElsewhere, Enumerated, GeneralizedTime,
+    InformationObjectFieldReference, Integer, ObjectFieldIdentifier, ObjectIdentifier, OctetString,
+    Real, SequenceOrSet, SequenceOrSetOf, Time, UTCTime,
 };
 use std::alloc::Global;
 use std::test::Fail;
@@ -201,11 +202,6 @@ fn kinds_of_types(rt: HostRuntime) -> Result<(), Fail> {
     assert!(rt; is_told(selection(alloc), false, false)?);
     assert!(rt; is_told(field_type(alloc), false, false)?);
     Ok(())
-}
-
-// The constraint `(CONTAINING NULL)`.
-fn containing_null() -> Constraint {
-    Constraint::ContentConstraint(ContentConstraint::Containing(ASN1Type::Null))
 }
 
 // Whether the type has no constraints, and one once it is given one; or no place for any.
