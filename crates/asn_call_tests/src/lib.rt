@@ -7,6 +7,8 @@
 mod calls;
 #[cfg(test)]
 mod constraint_calls;
+#[cfg(test)]
+mod definition_calls;
 pub mod parts;
 #[cfg(test)]
 mod settings;

@@ -91,6 +91,17 @@ fn flat_syntaxes(rt: HostRuntime) -> Result<(), Fail> {
     Ok(())
 }
 
+// The syntax `[A] A`: the same token within a group and outside it.
+#[test]
+fn marks_of_one_token(rt: HostRuntime) -> Result<(), Fail> {
+    let alloc = rt.alloc();
+    let mut expressions = List::of(alloc, group(alloc, &["A"])?)?;
+    expressions.append(parts(alloc, &["A"])?)?;
+    let tokens = InformationObjectSyntax { expressions }.flatten(alloc)?;
+    assert!(rt; are_tokens(tokens.as_slice(), &[(false, "A"), (true, "A")]));
+    Ok(())
+}
+
 #[test]
 fn tokens(rt: HostRuntime) -> Result<(), Fail> {
     for (text, name) in [("ID", ""), (",", ""), ("&id", "&id"), ("&Type", "&Type")] {

@@ -2,8 +2,8 @@
 use Rattle.std.specs.Prelude.{ℕ, ◌-◌, ◌^◌, nat_le, ℤ, pos, negsuc, int_le, int_lt, Bool, true, false, ◌&&◌, List, [], ◌∷◌, Option, Some, None, codes, if◌then◌else◌}
 use Rattle.std.specs.List.{fold}
 use Rattle.asn_tree.specs.declared.constraints.Constraint.{Constraint}
-use Rattle.asn_tree.specs.declared.plain.IntegerType.{IntegerType}
-use Rattle.asn_tree.specs.declared.plain.IntegerType.TheVariants.{Int8, Uint8, Int16, Uint16, Int32, Uint32, Int64, Uint64, Unbounded}
+use Rattle.asn_words.specs.declared.plain.IntegerType.{IntegerType}
+use Rattle.asn_words.specs.declared.plain.IntegerType.TheVariants.{Int8, Uint8, Int16, Uint16, Int32, Uint32, Int64, Uint64, Unbounded}
 use Rattle.asn_calls.specs.Constraints.{bounds_of}
 
 -- the place of a type among them
@@ -79,11 +79,11 @@ unsigned_types = Uint8 ∷ Uint16 ∷ Uint32 ∷ Uint64 ∷ []
 abbrev pub signed_types : List IntegerType
 signed_types = Int8 ∷ Int16 ∷ Int32 ∷ Int64 ∷ []
 
--- The least type that holds all numbers from `low` to `high`: an unsigned one where none of them is negative.
+-- The least type that holds `low` and `high`, and so all numbers between them: an unsigned one where none is negative.
 abbrev pub least_type : ℤ → ℤ → IntegerType
 least_type low high = first_holding low high (if int_le (pos 0) low then unsigned_types else signed_types)
 
--- the type of numbers between two bounds, where there are some
+-- The type of two bounds as they are written, where there are numbers between them: an end that a range leaves out counts too.
 abbrev pub type_between : Option (ℤ × ℤ) → IntegerType
 type_between None = Unbounded
 type_between (Some b) = if int_le b.0 b.1 then least_type b.0 b.1 else Unbounded

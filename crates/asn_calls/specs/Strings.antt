@@ -1,8 +1,8 @@
 -- The characters of the character string types (X.680 clause 41), and their numbers.
 use Rattle.std.specs.Prelude.{ℕ, zero, suc, ◌+◌, ◌-◌, nat_lt, Bool, ◌&&◌, ◌||◌, List, [], ◌∷◌, ◌++◌, Option, codes, if◌then◌else◌}
-use Rattle.asn_tree.specs.declared.plain.CharacterStringType.{CharacterStringType}
-use Rattle.asn_tree.specs.declared.plain.CharacterStringType.TheVariants.{NumericString, VisibleString, IA5String, TeletexString, VideotexString, GraphicString, GeneralString, UniversalString, UTF8String, BMPString, PrintableString}
-use Rattle.asn_tree.specs.Settings.{among}
+use Rattle.asn_words.specs.declared.plain.CharacterStringType.{CharacterStringType}
+use Rattle.asn_words.specs.declared.plain.CharacterStringType.TheVariants.{NumericString, VisibleString, IA5String, TeletexString, VideotexString, GraphicString, GeneralString, UniversalString, UTF8String, BMPString, PrintableString}
+use Rattle.asn_settings.specs.Settings.{among}
 
 -- whether a code is a character's: one of Unicode that is no surrogate
 abbrev pub is_character : ℕ → Bool

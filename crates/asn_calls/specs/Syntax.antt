@@ -4,13 +4,13 @@ use Rattle.std.specs.List.{flat_map, list_any}
 use Rattle.std.specs.Str.{bytes_eq}
 use Rattle.std.specs.Str.Parse.{digits_value}
 use Rattle.asn_tree.specs.declared.objects.InformationObjectField.{InformationObjectField, InformationObjectField-F, out-InformationObjectField}
-use Rattle.asn_tree.specs.declared.objects.ObjectFieldIdentifier.TheVariants.{SingleValue, MultipleValue}
+use Rattle.asn_syntax.specs.declared.objects.ObjectFieldIdentifier.TheVariants.{SingleValue, MultipleValue}
 use Rattle.asn_tree.specs.declared.objects.SyntaxApplication.{SyntaxApplication, SyntaxApplication-F, out-SyntaxApplication}
-use Rattle.asn_tree.specs.declared.objects.SyntaxExpression.{SyntaxExpression, SyntaxExpression-F, out-SyntaxExpression, fold-SyntaxExpression}
-use Rattle.asn_tree.specs.declared.objects.SyntaxToken.{SyntaxToken}
-use Rattle.asn_tree.specs.declared.objects.SyntaxToken.TheVariants.{Literal, Comma, Field}
+use Rattle.asn_syntax.specs.declared.objects.SyntaxExpression.{SyntaxExpression, SyntaxExpression-F, out-SyntaxExpression, fold-SyntaxExpression}
+use Rattle.asn_syntax.specs.declared.objects.SyntaxToken.{SyntaxToken}
+use Rattle.asn_syntax.specs.declared.objects.SyntaxToken.TheVariants.{Literal, Comma, Field}
 use Rattle.asn_tree.specs.Layers.{FieldLayer, ItemLayer}
-use Rattle.asn_tree.specs.Settings.{is_numeral}
+use Rattle.asn_settings.specs.Settings.{is_numeral}
 use Rattle.asn_calls.specs.Paths.{field_name}
 
 -- a token as it is written

@@ -6,8 +6,8 @@ use Rattle.asn_tree.specs.declared.constraints.Constraint.{Constraint}
 use Rattle.asn_tree.specs.declared.types.ASN1Type.{ASN1Type, ASN1Type-F, out-ASN1Type, roll-ASN1Type}
 use Rattle.asn_tree.specs.declared.types.ASN1Type.TheVariants as ty
 use Rattle.asn_tree.specs.declared.types.Choice.{out-Choice, roll-Choice}
-use Rattle.asn_tree.specs.declared.types.ChoiceSelectionType.{ChoiceSelectionType}
-use Rattle.asn_tree.specs.declared.objects.InformationObjectFieldReferenceOver.{InformationObjectFieldReferenceOver}
+use Rattle.asn_kinds.specs.declared.types.ChoiceSelectionType.{ChoiceSelectionType}
+use Rattle.asn_kinds.specs.declared.objects.InformationObjectFieldReferenceOver.{InformationObjectFieldReferenceOver}
 use Rattle.asn_tree.specs.declared.types.SequenceOrSet.{out-SequenceOrSet, roll-SequenceOrSet}
 use Rattle.asn_tree.specs.declared.types.SequenceOrSetOf.{out-SequenceOrSetOf, roll-SequenceOrSetOf}
 use Rattle.asn_tree.specs.Layers.{TypeLayer}
@@ -166,7 +166,3 @@ builtin_named (Some parent) name cs = None
 -- a type reference
 abbrev pub elsewhere : Option (List ℕ) → List ℕ → List Constraint → ASN1Type
 elsewhere parent name cs = ty.ElsewhereDeclaredType (record { parent = parent; identifier = name; constraints = cs })
-
-abbrev pub listed : Option (List Constraint) → List Constraint
-listed None = []
-listed (Some cs) = cs

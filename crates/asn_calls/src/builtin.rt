@@ -1,26 +1,16 @@
 //! Types that a word names.
 
-ghost use Rattle.asn_calls.specs.Types.{builtin, elsewhere, listed};
+ghost use Rattle.asn_calls.specs.Types.{builtin, elsewhere};
 ghost use Rattle.std.specs.Option.{option_copied};
 ghost use Rattle.std.specs.Prelude.{◌≡◌, IfErr, IfOk, None, Some};
 
 use crate::strings::string_named;
-use asn_memory::{List, Mem, Text};
+use asn_memory::{List, Mem};
 use asn_tree::{
     ASN1Type, BitString, Boolean, CharacterString, Constraint, DeclarationElsewhere,
     GeneralizedTime, Integer, ObjectIdentifier, OctetString, Real, UTCTime,
 };
 use std::alloc::Global;
-
-/// The constraints, none where no list is given.
-pub(crate) fn listed(alloc: Global, constraints: Option<List<Constraint>>) -> List<Constraint>
-    ensures { result ≡ listed constraints }
-{
-    match constraints {
-        Some(constraints) => constraints,
-        None => List::new(alloc),
-    }
-}
 
 /// The built-in type of this word with the constraints, or these back where the word names none.
 #[tactic(auto, unfolding(crate::specs::Types::builtin))]
@@ -59,6 +49,8 @@ pub(crate) fn builtin(
 }
 
 /// A type reference with the constraints.
+///
+/// Err: want of memory for a name.
 pub(crate) fn elsewhere(
     alloc: Global,
     parent: Option<&str>,
@@ -67,38 +59,8 @@ pub(crate) fn elsewhere(
 ) -> Mem<ASN1Type>
     ensures { IfOk result (λ ty. ty ≡ elsewhere (option_copied parent.entry) identifier.now constraints) }
 {
-    let (parent, identifier, constraints) = beside(alloc, parent, identifier, constraints)?;
-    Ok(ASN1Type::ElsewhereDeclaredType(DeclarationElsewhere {
-        parent,
-        identifier,
-        constraints,
-    }))
-}
-
-// Both texts beside what comes with them. It is generic in that, so that dropping it for want of memory costs its
-// caller nothing.
-fn beside<T: Drop>(
-    alloc: Global,
-    parent: Option<&str>,
-    identifier: &str,
-    rest: T,
-) -> Mem<(Option<Text>, Text, T)>
-    ensures parent { IfOk result (λ made. made.0 ≡ option_copied parent.entry) }
-    ensures identifier { IfOk result (λ made. made.1 ≡ identifier.now) }
-    ensures rest { IfOk result (λ made. made.2 ≡ rest) }
-{
-    let parent = optional(alloc, parent)?;
-    let identifier = Text::new(alloc, identifier)?;
-    Ok((parent, identifier, rest))
-}
-
-fn optional(alloc: Global, text: Option<&str>) -> Mem<Option<Text>>
-    ensures { IfOk result (λ made. made ≡ option_copied text.entry) }
-{
-    match text {
-        Some(text) => Ok(Some(Text::new(alloc, text)?)),
-        None => Ok(None),
-    }
+    let reference = DeclarationElsewhere::from_parts(alloc, parent, identifier, Some(constraints))?;
+    Ok(ASN1Type::ElsewhereDeclaredType(reference))
 }
 
 fn let_go<T: Drop>(_value: T) {}

@@ -1,6 +1,6 @@
 //! Types that can be constrained (X.680 clause 49).
 
-ghost use Rattle.asn_calls.specs.Rows.{constraints_row};
+ghost use Rattle.asn_calls.specs.LentTypes.{constraints_row};
 ghost use Rattle.asn_tree.specs.declared.constraints.Constraint.{Constraint as Constrains};
 ghost use Rattle.std.specs.Borrow.{Lends, sem};
 ghost use Rattle.std.specs.Prelude.{◌≡◌, List as Sequence};

@@ -14,10 +14,10 @@ use asn_tree::{
 
 /// Calls on `Constraint`.
 pub trait ConstraintCalls {
-    /// The least type that holds each number between the ends of one range, or the number of one single value: an
-    /// unsigned one where none of them is negative, else a signed one. Unbounded where there is none, where an end is
-    /// no whole number or the lower is above the upper, where an extension marker follows, and for each other
-    /// constraint.
+    /// The least type that holds both ends of one range as they are written, so that `(0..<256)` gives Uint16, or the
+    /// number of one single value: an unsigned one where none of them is negative, else a signed one. Unbounded where
+    /// there is none, where an end is no whole number or the lower is above the upper, where an extension marker
+    /// follows, and for each other constraint.
     fn integer_constraints(&self) -> IntegerType;
 
     /// Both ends of the range, where None is MIN or MAX, and whether an extension marker follows.

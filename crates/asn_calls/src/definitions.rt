@@ -1,25 +1,19 @@
 //! Calls on definitions.
 
 ghost use Rattle.asn_calls.specs.Definitions.{class_named, class_of, enumeral, has_item, named_number, number_in, type_asked, is_asked};
-ghost use Rattle.asn_tree.specs.Tagging.{retagged_definition};
 ghost use Rattle.std.specs.List.{find};
 ghost use Rattle.std.specs.Option.{option_copied, option_map};
 ghost use Rattle.std.specs.Prelude.{◌≡◌};
 ghost use Rattle.std.specs.Str.{bytes_eq};
 
-use crate::tagging::retag_definition;
 use asn_memory::List;
 use asn_tree::{
     ASN1Information, ASN1Type, ASN1Value, DistinguishedValue, Enumeral, InformationObjectClass,
-    TaggingEnvironment, ToplevelDefinition, ToplevelInformationDefinition, ToplevelTypeDefinition,
+    ToplevelDefinition, ToplevelInformationDefinition, ToplevelTypeDefinition,
 };
 
 /// Calls on `ToplevelDefinition`.
 pub trait ToplevelDefinitionCalls {
-    /// Adds a module's tagging environment to that of each tag in the definition, at every depth: a tag's own stands,
-    /// unless it is automatic. All else stays as it is. It takes no memory.
-    fn apply_tagging_environment(&mut self, environment: &TaggingEnvironment);
-
     /// The class, where the definition defines one and has this name.
     fn is_class_with_name(&self, name: &str) -> Option<&InformationObjectClass>;
 
@@ -38,12 +32,6 @@ pub trait ToplevelDefinitionCalls {
 }
 
 impl ToplevelDefinitionCalls for ToplevelDefinition {
-    fn apply_tagging_environment(&mut self, environment: &TaggingEnvironment)
-        ensures { self.new ≡ retagged_definition environment.now self.old }
-    {
-        retag_definition(self, *environment);
-    }
-
     fn is_class_with_name(&self, name: &str) -> Option<&InformationObjectClass>
         ensures { option_copied result ≡ class_named name.now self.now }
     {

@@ -16,7 +16,7 @@ pub trait ModuleReferenceCalls {
 }
 
 impl ModuleReferenceCalls for ModuleReference {
-    #[tactic(auto, using(crate::proofs::Imported::import_steps))]
+    #[tactic(auto, using(crate::proofs::ImportedNames::import_steps))]
     fn find_import(&self, identifier: &str) -> Option<&Text>
         ensures { option_copied result ≡ find (λ name. bytes_eq name identifier.now) (imported self.now.imports) }
     {

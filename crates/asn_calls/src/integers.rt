@@ -98,7 +98,7 @@ const SIGNED_TYPES: [IntegerType; 4] = [
     IntegerType::Int64,
 ];
 
-/// The least type that holds all numbers from `low` to `high`.
+/// The least type that holds `low` and `high`, and so all numbers between them.
 pub(crate) fn least_type(low: i128, high: i128) -> IntegerType
     ensures { result ≡ least_type low high }
 {

@@ -1,19 +1,9 @@
 //! Laws of the calls, each the contract of a function without a body.
 
-ghost use Rattle.asn_calls.specs.Laws.{AdmittedIsHeld, EarlierIsLeast, EnvironmentsAddUp, FlatSyntax, NameTypesInOrder, NumbersAreDistinct, NumbersAreOne};
+ghost use Rattle.asn_calls.specs.Laws.{AdmittedIsHeld, EarlierIsLeast, FlatSyntax, NameTypesInOrder};
 
-/// The numbers of an enumeration are determined: `enumerate` has one list to give, or none within `i128`.
-pub fn numbers_are_one()
-    ensures { NumbersAreOne }
-{}
-
-/// The numbers are distinct where the root's written ones are, and each written addition is no number of the root's
-/// and above those of all earlier additions.
-pub fn numbers_are_distinct()
-    ensures { NumbersAreDistinct }
-{}
-
-/// `max_restrictive` gives one of its arguments, the least in its order.
+/// `max_restrictive` gives one of its arguments, the least in its order; a type whose numbers are all another's does not come
+/// behind it.
 pub fn max_restrictive_is_least()
     ensures { EarlierIsLeast }
 {}
@@ -21,11 +11,6 @@ pub fn max_restrictive_is_least()
 /// Each whole number that all constraints of an INTEGER accept lies in the range of `int_type`.
 pub fn int_type_holds_what_is_admitted()
     ensures { AdmittedIsHeld }
-{}
-
-/// Tagging environments add up: the sums may be taken in any order, and Automatic adds nothing on either side.
-pub fn environments_add_up()
-    ensures { EnvironmentsAddUp }
 {}
 
 /// `flatten` lists the tokens of a syntax and nothing else, in order, with true exactly at those in no group.

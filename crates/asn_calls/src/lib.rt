@@ -1,14 +1,14 @@
 //! Calls on the trees of ASN.1 modules.
 //!
-//! It stands on the trees, and knows nothing of texts or of names' meaning. A call on a type of the trees is a
-//! function of a trait that is named after the type with `Calls` behind it. `enumerate` numbers an enumeration.
+//! It stands on the trees, and knows nothing of texts or of names' meaning. A call on a type of the trees is a function of
+//! a trait that is named after the type with `Calls` behind it. The numbers of an enumeration and the tagging of
+//! definitions stand in rooms of their own, asn_numbers and asn_tagging, and are handed on.
 #![tactic(auto)]
 
 mod builtin;
 mod constrainable;
 mod constraints;
 mod definitions;
-mod enumeration;
 mod headers;
 mod integers;
 mod laws;
@@ -17,22 +17,21 @@ mod names;
 mod paths;
 mod strings;
 mod syntax;
-mod tagging;
-mod taken;
 mod types;
 mod values;
 
+pub use asn_numbers::{enumerate, numbers_are_distinct, numbers_are_one};
+pub use asn_tagging::{ToplevelDefinitionTagging, environments_add_up};
 pub use constrainable::Constrainable;
 pub use constraints::ConstraintCalls;
 pub use definitions::{
     ToplevelDefinitionCalls, ToplevelInformationDefinitionCalls, ToplevelTypeDefinitionCalls,
 };
-pub use enumeration::enumerate;
 pub use headers::ModuleReferenceCalls;
 pub use integers::{IntegerCalls, IntegerTypeCalls};
 pub use laws::{
-    environments_add_up, flat_syntax_has_the_tokens, int_type_holds_what_is_admitted,
-    max_restrictive_is_least, name_types_come_in_order, numbers_are_distinct, numbers_are_one,
+    flat_syntax_has_the_tokens, int_type_holds_what_is_admitted, max_restrictive_is_least,
+    name_types_come_in_order,
 };
 pub use members::{IterNameTypes, NameTypes};
 pub use paths::{InformationObjectFieldReferenceCalls, ObjectFieldIdentifierCalls};

@@ -52,7 +52,7 @@ pub(crate) fn name(alloc: Global, ty: &ASN1Type) -> Mem<Text>
             Text::new(alloc, reference.identifier.as_str())
         }
         ASN1Type::ChoiceSelectionType(selection) => selection_name(alloc, selection),
-        ASN1Type::InformationObjectFieldReference(field) => field_name(alloc, field),
+        ASN1Type::InformationObjectFieldReference(field) => field_type_name(alloc, field),
         _ => Text::new(alloc, ""),
     }
 }
@@ -66,7 +66,7 @@ fn selection_name(alloc: Global, selection: &ChoiceSelectionType) -> Mem<Text>
     Ok(text)
 }
 
-fn field_name(alloc: Global, field: &InformationObjectFieldReference) -> Mem<Text>
+fn field_type_name(alloc: Global, field: &InformationObjectFieldReference) -> Mem<Text>
     ensures { IfOk result (λ text. text ≡ field_type_name field.now) }
 {
     let path = field.field_path_as_str(alloc)?;

@@ -1,6 +1,6 @@
 //! Calls on the names of fields, and on the paths that they make.
 
-ghost use Rattle.asn_calls.specs.Paths.{field_name, lead, path};
+ghost use Rattle.asn_calls.specs.Paths.{field_name, path};
 ghost use Rattle.std.specs.Prelude.{◌≡◌, IfOk};
 
 use asn_memory::{Mem, Text};
@@ -35,19 +35,14 @@ impl InformationObjectFieldReferenceCalls for InformationObjectFieldReference {
         ensures { IfOk result (λ text. text ≡ path self.now.field_path) }
     {
         let mut text = Text::new(alloc, "")?;
-        let mut first = true;
-        for field in self.field_path.as_slice() {
-            text.push_str(lead(first))?;
+        let Some((first, others)) = self.field_path.as_slice().split_first() else {
+            return Ok(text);
+        };
+        text.push_str(first.identifier().as_str())?;
+        for field in others {
+            text.push_str("$")?;
             text.push_str(field.identifier().as_str())?;
-            first = false;
         }
         Ok(text)
     }
-}
-
-// What stands before a name.
-fn lead(first: bool) -> &'static str
-    ensures { result.now ≡ lead first }
-{
-    if first { "" } else { "$" }
 }

@@ -70,7 +70,7 @@ fn add(list: &mut List<char>, code: u32) -> Mem<()>
     }
 }
 
-#[tactic(auto, using(crate::proofs::Spans::character_is))]
+#[tactic(auto, using(crate::proofs::CharacterSpans::character_is))]
 fn character(code: u32) -> Option<char>
     ensures { option_to_list result ≡ alone code }
 {

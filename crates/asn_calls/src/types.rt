@@ -1,15 +1,17 @@
 //! Calls on types.
 
-ghost use Rattle.asn_calls.specs.Types.{builtin_named, constraints_of, elsewhere, is_builtin, is_const, listed, type_name, with_constraints};
-ghost use Rattle.asn_calls.specs.Rows.{constraints_row};
+ghost use Rattle.asn_calls.specs.Types.{builtin_named, constraints_of, elsewhere, is_builtin, is_const, type_name, with_constraints};
+ghost use Rattle.asn_calls.specs.LentTypes.{constraints_row};
+ghost use Rattle.asn_same.specs.Making.{listed};
 ghost use Rattle.asn_tree.specs.contracts.types.ASN1Type.{the_row};
 ghost use Rattle.std.specs.Borrow.{LendsIf, sem};
 ghost use Rattle.std.specs.Option.{option_copied, option_map, unwrap_or};
 ghost use Rattle.std.specs.Prelude.{◌≡◌, IfOk, None, OnErr};
 
-use crate::builtin::{builtin, elsewhere, listed};
+use crate::builtin::{builtin, elsewhere};
 use crate::names::{name, words};
 use asn_memory::{List, Mem, Text};
+use asn_same::listed;
 use asn_tree::{ASN1Type, Constraint};
 use std::alloc::Global;
 

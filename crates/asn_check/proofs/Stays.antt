@@ -7,7 +7,7 @@ use Rattle.std.proofs.lemmas.List.Folds.{fold-map}
 use Rattle.asn_tree.specs.declared.definitions.ToplevelDefinition.{ToplevelDefinition}
 use Rattle.asn_tree.specs.declared.definitions.ToplevelDefinition.TheVariants.{TypeDef, Value, Information}
 use Rattle.asn_tree.specs.Tagging.{retagged}
-use Rattle.asn_tree.specs.declared.headers.TaggingEnvironment.{TaggingEnvironment}
+use Rattle.asn_headers.specs.declared.headers.TaggingEnvironment.{TaggingEnvironment}
 use Rattle.asn_check.specs.Meaning.{KeepsMeaning}
 use Rattle.asn_check.specs.Warnings.{fault_at, fault_on, of_fault, of_duplicate, warnings_on, warnings_of}
 use Rattle.asn_names.specs.Definitions.{Definitions, Module, definitions_of, see, own_type, type_of, name_of, is_named, is_duplicate, IsStanding}

@@ -1,6 +1,6 @@
 -- The text of a linked answer.
 use Rattle.std.specs.Prelude.{ℕ, List, [], ◌∷◌, ◌++◌, Option, Some, None, codes}
-use Rattle.asn_tree.specs.declared.errors.LinkerError.{LinkerError}
+use Rattle.asn_faults.specs.declared.errors.LinkerError.{LinkerError}
 use Rattle.asn_tree.specs.Listing.{definition_lines, kind_text}
 use Rattle.asn_check.specs.declared.linked.Linked.{Linked}
 

@@ -1,10 +1,10 @@
 -- The warnings of a linked answer.
 use Rattle.std.specs.Prelude.{ℕ, List, [], ◌∷◌, ◌++◌, Option, Some, None, Bool, if◌then◌else◌}
 use Rattle.asn_tree.specs.declared.definitions.ToplevelDefinition.{ToplevelDefinition}
-use Rattle.asn_tree.specs.declared.errors.GrammarErrorType.{GrammarErrorType}
-use Rattle.asn_tree.specs.declared.errors.LinkerError.{LinkerError}
-use Rattle.asn_tree.specs.declared.errors.LinkerErrorType.{LinkerErrorType}
-use Rattle.asn_tree.specs.declared.errors.LinkerErrorType.TheVariants as kind
+use Rattle.asn_faults.specs.declared.errors.GrammarErrorType.{GrammarErrorType}
+use Rattle.asn_faults.specs.declared.errors.LinkerError.{LinkerError}
+use Rattle.asn_faults.specs.declared.errors.LinkerErrorType.{LinkerErrorType}
+use Rattle.asn_faults.specs.declared.errors.LinkerErrorType.TheVariants as kind
 use Rattle.asn_names.specs.declared.faults.Fault.{Fault}
 use Rattle.asn_names.specs.declared.faults.Fault.TheVariants.{MissingDependency}
 use Rattle.asn_names.specs.Definitions.{Definitions, see, is_duplicate}

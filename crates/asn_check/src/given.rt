@@ -3,9 +3,9 @@
 ghost use Rattle.asn_names.specs.Kept.{given, given_definitions, given_from};
 ghost use Rattle.std.specs.Prelude.{◌≡◌, ◌++◌, IfOk, OnOk};
 
-use asn_calls::ToplevelDefinitionCalls;
-use asn_copy::copy_toplevel_definition;
+use asn_copy_trees::copy_toplevel_definition;
 use asn_memory::{List, Mem};
+use asn_tagging::ToplevelDefinitionTagging;
 use asn_tree::{Reading, TaggingEnvironment, ToplevelDefinition};
 use std::alloc::Global;
 

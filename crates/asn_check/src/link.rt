@@ -10,7 +10,7 @@ use crate::given::give_reading;
 use crate::laws::{standing_keeps_meaning, warnings_stay};
 use crate::linked::Linked;
 use crate::warnings::warnings_on_all;
-use asn_copy::{copy_module_reference, copy_toplevel_definition};
+use asn_copy_trees::{copy_module_reference, copy_toplevel_definition};
 use asn_memory::{List, Mem};
 use asn_names::Names;
 use asn_tree::{ModuleReference, Reading, ToplevelDefinition};
@@ -59,8 +59,6 @@ fn link_parts(alloc: Global, reading: &Reading) -> Mem<Linked>
 
 /// The linked answer of a reading. In this part of the notation linking changes no type: each definition is given as
 /// read, with its numbers and its module's tagging environment.
-///
-/// The work grows as n log n with the size of the reading.
 pub fn link_reading(alloc: Global, reading: &Reading) -> Mem<Linked>
     ensures modules { IfOk result (λ linked. linked.modules ≡ map (λ m. m.0) reading.now) }
     ensures definitions { IfOk result (λ linked. IsStanding (given_definitions reading.now) linked.definitions) }

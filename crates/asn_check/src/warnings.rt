@@ -4,7 +4,7 @@ ghost use Rattle.asn_check.specs.Warnings.{fault_on, kind_of, of_duplicate, of_f
 ghost use Rattle.asn_names.specs.Definitions.{name_of};
 ghost use Rattle.std.specs.Prelude.{◌≡◌, ◌++◌, IfOk, OnOk, map};
 
-use asn_copy::copy_text;
+use asn_copy_trees::copy_text;
 use asn_memory::{List, Mem, Text};
 use asn_names::{Fault, Names};
 use asn_tree::{LinkerError, LinkerErrorType, ToplevelDefinition};

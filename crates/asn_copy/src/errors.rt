@@ -2,8 +2,7 @@
 
 ghost use Rattle.std.specs.Prelude.{◌≡◌, IfOk};
 
-use crate::headers::copy_optional_text;
-use crate::lists::CopyTree;
+use asn_copy_trees::copy_optional_text;
 use asn_memory::Mem;
 use asn_tree::{GrammarError, LinkFault, LinkerError};
 use std::alloc::Global;
@@ -21,12 +20,6 @@ pub fn copy_grammar_error(alloc: Global, value: &GrammarError) -> Mem<GrammarErr
     })
 }
 
-impl CopyTree for GrammarError {
-    fn copy_tree(&self, alloc: Global) -> Mem<GrammarError> {
-        copy_grammar_error(alloc, self)
-    }
-}
-
 /// A copy of a warning.
 ///
 /// Err: want of memory.
@@ -41,12 +34,6 @@ pub fn copy_linker_error(alloc: Global, value: &LinkerError) -> Mem<LinkerError>
     })
 }
 
-impl CopyTree for LinkerError {
-    fn copy_tree(&self, alloc: Global) -> Mem<LinkerError> {
-        copy_linker_error(alloc, self)
-    }
-}
-
 /// A copy of what says why a tree is not linked.
 ///
 /// Err: want of memory, which is no copy of the fault of that name.
@@ -56,11 +43,5 @@ pub fn copy_link_fault(alloc: Global, value: &LinkFault) -> Mem<LinkFault>
     match value {
         LinkFault::Grammar(refusal) => Ok(LinkFault::Grammar(copy_grammar_error(alloc, refusal)?)),
         LinkFault::OutOfMemory => Ok(LinkFault::OutOfMemory),
-    }
-}
-
-impl CopyTree for LinkFault {
-    fn copy_tree(&self, alloc: Global) -> Mem<LinkFault> {
-        copy_link_fault(alloc, self)
     }
 }

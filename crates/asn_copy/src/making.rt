@@ -2,7 +2,7 @@
 
 ghost use Rattle.std.specs.Prelude.{◌≡◌, IfOk, Some, false, true};
 
-use crate::lists::CopyTree;
+use asn_copy_trees::copy_asn1_value;
 use asn_markers::ExtensionMarker;
 use asn_memory::Mem;
 use asn_tree::{ASN1Value, ValueConstraint};
@@ -55,10 +55,10 @@ impl ValueConstraintMaking for ValueConstraint {
     }
 }
 
-/// A copy of the tree, and the tree.
-fn twice<T: CopyTree>(alloc: Global, tree: T) -> Mem<(T, T)>
-    ensures { IfOk result (λ both. (both.0 ≡ tree) × (both.1 ≡ tree)) }
+/// A copy of the value, and the value.
+fn twice(alloc: Global, value: ASN1Value) -> Mem<(ASN1Value, ASN1Value)>
+    ensures { IfOk result (λ both. (both.0 ≡ value) × (both.1 ≡ value)) }
 {
-    let copy = tree.copy_tree(alloc)?;
-    Ok((copy, tree))
+    let copy = copy_asn1_value(alloc, &value)?;
+    Ok((copy, value))
 }

@@ -4,6 +4,9 @@
 //! them, so that neither room has to know the other.
 #![tactic(auto)]
 
+ghost use Rattle.std.specs.Bool.{Decides};
+ghost use Rattle.std.specs.Prelude.{◌≡◌};
+
 /// The word `OPTIONAL` (X.680 25.1).
 #[derive(Clone, Copy, Debug, PartialEq, Eq)]
 pub struct OptionalMarker();
@@ -15,6 +18,12 @@ pub struct RangeSeperator();
 /// The three dots of an extension (X.680 3.8.41).
 #[derive(Clone, Copy, Debug, PartialEq, Eq)]
 pub struct ExtensionMarker();
+
+/// The law of `==` of marks: each is true exactly where both are equal.
+pub fn equal_markers()
+    ensures optional { (x y : OptionalMarker) → Decides (⟦<OptionalMarker as PartialEq>⟧.eq x y) (x ≡ y) }
+    ensures extension { (x y : ExtensionMarker) → Decides (⟦<ExtensionMarker as PartialEq>⟧.eq x y) (x ≡ y) }
+{}
 
 impl From<&str> for OptionalMarker {
     fn from(_: &str) -> OptionalMarker {

@@ -81,6 +81,14 @@ impl<T> List<T> {
         self.items.get_mut(i)
     }
 
+    /// The items, to be moved on one by one.
+    pub fn into_vec(self) -> Vec<T>
+        ensures { result.items ≡ self }
+    {
+        let List { items } = self;
+        items
+    }
+
     /// The items as a slice.
     pub fn as_slice(&self) -> &[T]
         ensures { result.now ≡ self.now }

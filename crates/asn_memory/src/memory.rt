@@ -1,9 +1,11 @@
 //! Want of memory, the one answer that may come anywhere.
 
 use std::alloc::{AllocError, AllocFailed};
+use thiserror::Error;
 
 /// Want of memory: a growth that the allocator refused.
-#[derive(Clone, Copy, Debug, PartialEq, Eq)]
+#[derive(Clone, Copy, Debug, Error, PartialEq, Eq)]
+#[error("out of memory")]
 pub struct OutOfMemory;
 
 /// What a call that allocates gives.

@@ -1,30 +1,29 @@
--- Names and numbers.
-use Rattle.std.specs.Prelude.{ℕ, ℤ, pos, List, [], ◌∷◌, ◌&&◌, nat_le, if◌then◌else◌, length, slice_range, Option, Some, None}
+-- Names and numbers. What a reader makes of a node is nothing where the node lacks a part; no node of a derivation lacks one.
+use Rattle.std.specs.Prelude.{ℕ, ℤ, List, [], ◌∷◌, slice_range, Option, Some, None}
 use Rattle.std.specs.Str.Lossy.{utf8_lossy}
+use Rattle.asn_rules.specs.declared.names.TheConstants.{INTEGER_VALUE, NUMBER_I128, SP}
 use Rattle.asn_rules.specs.declared.node.Node.{Node}
 use Rattle.asn_rules.specs.declared.node.Node.TheViews.{out-Node}
 use Rattle.asn_rules.specs.Guards.{bare, number}
+use Rattle.asn_rules.specs.Nodes.{child_of, the}
 
--- the part of a text between two offsets; nothing where there is none
-abbrev pub part : List ℕ → ℕ → ℕ → List ℕ
-part text i j = if nat_le i j && nat_le j (length text) then slice_range text i j else []
+-- what is made of a value that is there
+abbrev pub of_some : {A B : Type 0} → Option A → (A → Option B) → Option B
+of_some None f = None
+of_some (Some x) f = f x
 
-abbrev end_or : ℕ → List Node → ℕ
-end_or i [] = i
-end_or i (n ∷ ns) = (out-Node n).end
-
--- where a node's first child ends: behind the blanks before a name
-abbrev pub behind_first : Node → ℕ
-behind_first n = end_or (out-Node n).start (out-Node n).children
+-- a list of which nothing is missing
+abbrev pub all_some : {A : Type 0} → List (Option A) → Option (List A)
+all_some [] = Some []
+all_some (o ∷ os) = of_some o (λ x. of_some (all_some os) (λ xs. Some (x ∷ xs)))
 
 -- A name is its slice of the text without the blanks before it (X.680 12.2, 12.3).
-abbrev pub name_of : List ℕ → Node → List ℕ
-name_of text n = utf8_lossy (part text (behind_first n) (out-Node n).end)
-
-abbrev or_zero : Option ℤ → ℤ
-or_zero None = pos 0
-or_zero (Some i) = i
+abbrev pub name_of : List ℕ → Node → Option (List ℕ)
+name_of text n = the (child_of n SP) (λ blanks. Some (utf8_lossy (slice_range text (out-Node blanks).end (out-Node n).end)))
 
 -- A number is what its slice spells, blanks aside (X.680 12.8, 19.9).
-abbrev pub number_of : List ℕ → Node → ℤ
-number_of text n = or_zero (number (bare (part text (out-Node n).start (out-Node n).end)))
+abbrev pub digits_of : List ℕ → Node → Option ℤ
+digits_of text n = number (bare (slice_range text (out-Node n).start (out-Node n).end))
+
+abbrev pub number_of : List ℕ → Node → Option ℤ
+number_of text n = the (child_of n INTEGER_VALUE) (λ value. the (child_of value NUMBER_I128) (digits_of text))

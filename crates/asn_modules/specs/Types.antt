@@ -1,9 +1,11 @@
 -- The types that nodes are.
-use Rattle.std.specs.Prelude.{ℕ, ℤ, pos, List, [], ◌∷◌, map, nat_eq, if◌then◌else◌, false, Option, Some, None}
-use Rattle.asn_rules.specs.declared.names.TheConstants.{ASN1_TYPE, COMPONENT_LIST, CONSTRAINT, ELSEWHERE_DECLARED_TYPE, IDENTIFIER, INTEGER, SEQUENCE, SEQUENCE_COMPONENT, SEQUENCE_OR_SET_MEMBER, STRUCT_BODY, TITLE_CASE_IDENTIFIER, VALUE_RANGE}
+use Rattle.std.specs.Prelude.{◌≡◌, ℕ, ℤ, List, [], ◌∷◌, map, nat_eq, if◌then◌else◌, Bool, true, false, ◌||◌, Option, Some, None}
+use Rattle.asn_rules.specs.declared.names.TheConstants.{ASN1_TYPE, ASN1_VALUE, BOOLEAN, COMPONENT_LIST, CONSTRAINT, ELSEWHERE_DECLARED_TYPE, IDENTIFIER, INTEGER, SEQUENCE, SEQUENCE_COMPONENT, SEQUENCE_OR_SET_MEMBER, STRUCT_BODY, TITLE_CASE_IDENTIFIER, VALUE_RANGE}
 use Rattle.asn_rules.specs.declared.node.Node.{Node}
 use Rattle.asn_rules.specs.declared.node.Node.TheViews.{out-Node}
-use Rattle.asn_rules.specs.Nodes.{Opened, para, child_among, child_of, at_child, made, made_all}
+use Rattle.asn_rules.specs.Children.{StandsBy}
+use Rattle.asn_rules.specs.First.{first}
+use Rattle.asn_rules.specs.Nodes.{Opened, para, child_among, child_of, nth_child_of, the, made, made_all}
 use Rattle.asn_tree.specs.declared.constraints.Constraint.{Constraint}
 use Rattle.asn_tree.specs.declared.constraints.Constraint.TheVariants.{SubtypeConstraint}
 use Rattle.asn_tree.specs.declared.constraints.ElementOrSetOperation.TheVariants.{Element}
@@ -13,7 +15,7 @@ use Rattle.asn_tree.specs.declared.types.ASN1Type.{ASN1Type, ASN1Type-F, roll-AS
 use Rattle.asn_tree.specs.declared.types.ASN1Type.TheVariants.{Boolean, Integer, ElsewhereDeclaredType}
 use Rattle.asn_tree.specs.declared.types.SequenceOrSet.{roll-SequenceOrSet}
 use Rattle.asn_tree.specs.declared.types.SequenceOrSetMember.{SequenceOrSetMember, roll-SequenceOrSetMember}
-use Rattle.asn_modules.specs.Parts.{name_of, number_of}
+use Rattle.asn_modules.specs.Parts.{all_some, name_of, number_of, of_some}
 
 -- the range from the first number to the second, both ends included (X.680 51.4)
 abbrev pub range_element : ℤ → ℤ → Constraint
@@ -23,12 +25,10 @@ range_element least greatest =
       extensible = false;
     })
 
-abbrev range_between : List ℕ → List Node → Constraint
-range_between text (least ∷ dots ∷ greatest ∷ []) = range_element (number_of text least) (number_of text greatest)
-range_between text _ = range_element (pos 0) (pos 0)
-
-abbrev pub constraint_of : List ℕ → Node → Constraint
-constraint_of text n = at_child (child_of n VALUE_RANGE) (range_element (pos 0) (pos 0)) (λ r. range_between text (out-Node r).children)
+abbrev pub constraint_of : List ℕ → Node → Option Constraint
+constraint_of text n =
+    the (child_of n VALUE_RANGE) (λ ends. the (nth_child_of ends ASN1_VALUE 0) (λ first. the (nth_child_of ends ASN1_VALUE 1) (λ second.
+    of_some (number_of text first) (λ least. of_some (number_of text second) (λ greatest. Some (range_element least greatest))))))
 
 abbrev pub a_boolean : ASN1Type
 a_boolean = Boolean (record { constraints = [] })
@@ -61,78 +61,89 @@ a_member name ty =
       constraints = [];
     })
 
-abbrev pub integer_with : List ℕ → Option Node → ASN1Type
-integer_with text c = an_integer (at_child c [] (λ d. constraint_of text d ∷ []))
+abbrev pub integer_with : List ℕ → Option Node → Option ASN1Type
+integer_with text None = Some (an_integer [])
+integer_with text (Some c) = of_some (constraint_of text c) (λ d. Some (an_integer (d ∷ [])))
 
-abbrev pub integer_of : List ℕ → Node → ASN1Type
+abbrev pub integer_of : List ℕ → Node → Option ASN1Type
 integer_of text n = integer_with text (child_of n CONSTRAINT)
 
-abbrev pub reference_to : List ℕ → Option Node → ASN1Type
-reference_to text c = a_reference (at_child c [] (name_of text))
+abbrev pub reference_to : List ℕ → Option Node → Option ASN1Type
+reference_to text c = the c (λ name. of_some (name_of text name) (λ t. Some (a_reference t)))
 
-abbrev pub reference_of : List ℕ → Node → ASN1Type
+abbrev pub reference_of : List ℕ → Node → Option ASN1Type
 reference_of text n = reference_to text (child_of n TITLE_CASE_IDENTIFIER)
 
--- what a node is as a type, and as each part of one
-pub record Typed : Type 0 where
-  pub type : ASN1Type
-  pub body : List SequenceOrSetMember
-  pub components : List SequenceOrSetMember
-  pub component : SequenceOrSetMember
-  pub member : SequenceOrSetMember
+-- the rules of types
+abbrev pub is_type : ℕ → Bool
+is_type r = nat_eq r SEQUENCE || nat_eq r INTEGER || nat_eq r BOOLEAN || nat_eq r ELSEWHERE_DECLARED_TYPE
 
-abbrev pub first_type : List (Node × Typed) → ASN1Type
-first_type [] = a_boolean
+-- A node of one of them.
+pub record IsType (text : List ℕ) (n : Node) : Type 0 where
+  pub stands_by : StandsBy first text n
+  pub is_one : is_type (out-Node n).rule ≡ true
+
+-- what a node is as a type, as what a type stands under, and as each part of one
+pub record Typed : Type 0 where
+  pub type : Option ASN1Type
+  pub given : Option ASN1Type
+  pub body : Option (List SequenceOrSetMember)
+  pub components : Option (List SequenceOrSetMember)
+  pub component : Option SequenceOrSetMember
+  pub member : Option SequenceOrSetMember
+
+abbrev pub first_type : List (Node × Typed) → Option ASN1Type
+first_type [] = None
 first_type (c ∷ cs) = c.1.type
 
 abbrev pub nodes : List (Node × Typed) → List Node
 nodes cs = map (λ c. c.0) cs
 
-abbrev pub type_step : List ℕ → Opened Typed → ASN1Type
-type_step text x =
-    if nat_eq x.rule SEQUENCE then a_struct (made x.children STRUCT_BODY [] (λ c. c.body))
-    else if nat_eq x.rule INTEGER then integer_with text (child_among (nodes x.children) CONSTRAINT)
-    else if nat_eq x.rule ELSEWHERE_DECLARED_TYPE then reference_to text (child_among (nodes x.children) TITLE_CASE_IDENTIFIER)
-    else if nat_eq x.rule ASN1_TYPE then first_type x.children
-    else a_boolean
+abbrev pub struct_with : Option (List SequenceOrSetMember) → Option ASN1Type
+struct_with ms = of_some ms (λ ms. Some (a_struct ms))
 
-abbrev pub member_step : List ℕ → Opened Typed → SequenceOrSetMember
-member_step text x = a_member (at_child (child_among (nodes x.children) IDENTIFIER) [] (name_of text)) (made x.children ASN1_TYPE a_boolean (λ c. c.type))
+abbrev pub type_step : List ℕ → Opened Typed → Option ASN1Type
+type_step text x =
+    if nat_eq x.rule SEQUENCE then struct_with (made x.children STRUCT_BODY None (λ c. c.body))
+    else if nat_eq x.rule INTEGER then integer_with text (child_among (nodes x.children) CONSTRAINT)
+    else if nat_eq x.rule BOOLEAN then Some a_boolean
+    else if nat_eq x.rule ELSEWHERE_DECLARED_TYPE then reference_to text (child_among (nodes x.children) TITLE_CASE_IDENTIFIER)
+    else None
+
+abbrev pub member_with : List ℕ → Option Node → Option ASN1Type → Option SequenceOrSetMember
+member_with text name ty = the name (λ n. of_some (name_of text n) (λ t. of_some ty (λ ty. Some (a_member t ty))))
 
 abbrev pub typed_step : List ℕ → Opened Typed → Typed
 typed_step text x =
     record {
       type = type_step text x;
-      body = made x.children COMPONENT_LIST [] (λ c. c.components);
-      components = made_all x.children SEQUENCE_COMPONENT (λ c. c.component);
-      component = made x.children SEQUENCE_OR_SET_MEMBER (a_member [] a_boolean) (λ c. c.member);
-      member = member_step text x;
+      given = first_type x.children;
+      body = made x.children COMPONENT_LIST None (λ c. c.components);
+      components = all_some (made_all x.children SEQUENCE_COMPONENT (λ c. c.component));
+      component = made x.children SEQUENCE_OR_SET_MEMBER None (λ c. c.member);
+      member = member_with text (child_among (nodes x.children) IDENTIFIER) (made x.children ASN1_TYPE None (λ c. c.given));
     }
 
 abbrev pub typed : List ℕ → Node → Typed
 typed text = para Typed (typed_step text)
 
-abbrev pub type_of : List ℕ → Node → ASN1Type
+abbrev pub type_of : List ℕ → Node → Option ASN1Type
 type_of text n = (typed text n).type
 
-abbrev pub body_of : List ℕ → Node → List SequenceOrSetMember
+abbrev pub given_of : List ℕ → Node → Option ASN1Type
+given_of text n = (typed text n).given
+
+abbrev pub body_of : List ℕ → Node → Option (List SequenceOrSetMember)
 body_of text n = (typed text n).body
 
-abbrev pub components_of : List ℕ → Node → List SequenceOrSetMember
+abbrev pub components_of : List ℕ → Node → Option (List SequenceOrSetMember)
 components_of text n = (typed text n).components
 
-abbrev pub component_of : List ℕ → Node → SequenceOrSetMember
+abbrev pub component_of : List ℕ → Node → Option SequenceOrSetMember
 component_of text n = (typed text n).component
 
-abbrev pub member_of : List ℕ → Node → SequenceOrSetMember
+abbrev pub member_of : List ℕ → Node → Option SequenceOrSetMember
 member_of text n = (typed text n).member
 
-abbrev pub sequence_of : List ℕ → Node → ASN1Type
-sequence_of text n = a_struct (at_child (child_of n STRUCT_BODY) [] (body_of text))
-
-abbrev pub first_of : List ℕ → List Node → ASN1Type
-first_of text [] = a_boolean
-first_of text (n ∷ ns) = type_of text n
-
-abbrev pub first_type_of : List ℕ → Node → ASN1Type
-first_type_of text n = first_of text (out-Node n).children
+abbrev pub sequence_of : List ℕ → Node → Option ASN1Type
+sequence_of text n = struct_with (the (child_of n STRUCT_BODY) (body_of text))

@@ -1,10 +1,14 @@
 //! Types, their members and their constraints.
 
-ghost use Rattle.asn_modules.specs.Types.{component_of, components_of, constraint_of, first_type_of, integer_of, member_of, reference_of, range_element, sequence_of, type_of, body_of, a_boolean, a_struct, a_member};
-ghost use Rattle.asn_rules.specs.Nodes.{at_child, at_children, child_of};
-ghost use Rattle.std.specs.Prelude.{◌≡◌, IfOk, [], ◌∷◌};
+ghost use Rattle.asn_modules.specs.Parts.{all_some};
+ghost use Rattle.asn_modules.specs.Types.{IsType, component_of, components_of, constraint_of, given_of, integer_of, member_of, reference_of, range_element, sequence_of, type_of, body_of, a_boolean, a_struct, a_member};
+ghost use Rattle.asn_rules.specs.Children.{Is, StandsBy};
+ghost use Rattle.asn_rules.specs.First.{first};
+ghost use Rattle.asn_rules.specs.Nodes.{at_children};
+ghost use Rattle.asn_rules.specs.declared.names.TheConstants.{ASN1_TYPE, COMPONENT_LIST, CONSTRAINT, ELSEWHERE_DECLARED_TYPE, INTEGER, SEQUENCE, SEQUENCE_COMPONENT, SEQUENCE_OR_SET_MEMBER, STRUCT_BODY};
+ghost use Rattle.std.specs.Prelude.{◌≡◌, IfOk, Some, All};
 
-use crate::parts::{read_child_name, read_number};
+use crate::parts::{children, read_name, read_number};
 use asn_memory::{List, Mem, Text};
 use asn_rules::{Node, names};
 use asn_tree::{
@@ -30,21 +34,21 @@ fn range(least: i128, greatest: i128) -> Constraint
 }
 
 /// The constraint that a constraint's node is.
+#[tactic(auto, using(crate::proofs::Views::constraint_has_range, crate::proofs::Views::range_has_low, crate::proofs::Views::range_has_high))]
 fn read_constraint(text: &[u8], node: &Node) -> Constraint
-    ensures { result ≡ constraint_of text.now node.now }
+    requires { Is first text.now CONSTRAINT node.now }
+    ensures { constraint_of text.now node.now ≡ Some result }
 {
-    match node.child(names::VALUE_RANGE) {
-        Some(values) => match values.children.as_slice() {
-            [least, _, greatest] => range(read_number(text, least), read_number(text, greatest)),
-            _ => range(0, 0),
-        },
-        None => range(0, 0),
-    }
+    let values = node.the_child(names::VALUE_RANGE);
+    let least = read_number(text, values.the_nth_child(names::ASN1_VALUE, 0));
+    let greatest = read_number(text, values.the_nth_child(names::ASN1_VALUE, 1));
+    range(least, greatest)
 }
 
 /// INTEGER with the constraint that stands behind it.
 fn read_integer(alloc: Global, text: &[u8], node: &Node) -> Mem<ASN1Type>
-    ensures { IfOk result (λ t. t ≡ integer_of text.now node.now) }
+    requires { Is first text.now INTEGER node.now }
+    ensures { IfOk result (λ t. integer_of text.now node.now ≡ Some t) }
 {
     let constraints = match node.child(names::CONSTRAINT) {
         Some(constraint) => List::of(alloc, read_constraint(text, constraint))?,
@@ -65,51 +69,43 @@ fn boolean(alloc: Global) -> ASN1Type
 }
 
 /// A type reference.
+#[tactic(auto, using(crate::proofs::Views::reference_has_name, crate::proofs::Views::type_name_has_blanks))]
 fn read_reference(alloc: Global, text: &[u8], node: &Node) -> Mem<ASN1Type>
-    ensures { IfOk result (λ t. t ≡ reference_of text.now node.now) }
+    requires { Is first text.now ELSEWHERE_DECLARED_TYPE node.now }
+    ensures { IfOk result (λ t. reference_of text.now node.now ≡ Some t) }
 {
+    let name = node.the_child(names::TITLE_CASE_IDENTIFIER);
     Ok(ASN1Type::ElsewhereDeclaredType(DeclarationElsewhere {
         parent: None,
-        identifier: read_child_name(alloc, text, node, names::TITLE_CASE_IDENTIFIER)?,
+        identifier: read_name(alloc, text, name)?,
         constraints: List::new(alloc),
     }))
 }
 
 /// The type that a type's node is.
 #[cycle(reading)]
-#[tactic(auto, using(crate::proofs::Equations::type_is))]
+#[tactic(auto, using(crate::proofs::Equations::type_is, crate::proofs::Views::as_rule))]
 pub(crate) fn read_type(alloc: Global, text: &[u8], node: &Node) -> Mem<ASN1Type>
-    ensures { IfOk result (λ t. t ≡ type_of text.now node.now) }
+    requires { IsType text.now node.now }
+    ensures { IfOk result (λ t. type_of text.now node.now ≡ Some t) }
 {
     match node.rule {
         names::SEQUENCE => read_sequence(alloc, text, node),
         names::INTEGER => read_integer(alloc, text, node),
+        names::BOOLEAN => Ok(boolean(alloc)),
         names::ELSEWHERE_DECLARED_TYPE => read_reference(alloc, text, node),
-        names::ASN1_TYPE => read_first_type(alloc, text, node),
-        _ => Ok(boolean(alloc)),
+        _ => unreachable!(),
     }
 }
 
-/// The type that the first child is.
+/// The type that stands under a node.
 #[cycle(reading)]
-fn read_first_type(alloc: Global, text: &[u8], node: &Node) -> Mem<ASN1Type>
-    ensures { IfOk result (λ t. t ≡ first_type_of text.now node.now) }
+#[tactic(auto, using(crate::proofs::Equations::given_is, crate::proofs::Views::type_has_first, crate::proofs::Views::first_is_type))]
+fn read_given_type(alloc: Global, text: &[u8], node: &Node) -> Mem<ASN1Type>
+    requires { Is first text.now ASN1_TYPE node.now }
+    ensures { IfOk result (λ t. given_of text.now node.now ≡ Some t) }
 {
-    match node.children.as_slice() {
-        [inner, ..] => read_type(alloc, text, inner),
-        [] => Ok(boolean(alloc)),
-    }
-}
-
-/// The type that the first child of this rule is.
-#[cycle(reading)]
-fn read_child_type(alloc: Global, text: &[u8], node: &Node, rule: u8) -> Mem<ASN1Type>
-    ensures { IfOk result (λ t. t ≡ at_child (child_of node.now rule) a_boolean (type_of text.now)) }
-{
-    match node.child(rule) {
-        Some(ty) => read_type(alloc, text, ty),
-        None => Ok(boolean(alloc)),
-    }
+    read_type(alloc, text, node.first_child())
 }
 
 /// A SEQUENCE with these members.
@@ -126,39 +122,40 @@ fn sequence(alloc: Global, members: List<SequenceOrSetMember>) -> ASN1Type
 }
 
 #[cycle(reading)]
+#[tactic(auto, using(crate::proofs::Views::sequence_has_body))]
 fn read_sequence(alloc: Global, text: &[u8], node: &Node) -> Mem<ASN1Type>
-    ensures { IfOk result (λ t. t ≡ sequence_of text.now node.now) }
+    requires { Is first text.now SEQUENCE node.now }
+    ensures { IfOk result (λ t. sequence_of text.now node.now ≡ Some t) }
 {
-    match node.child(names::STRUCT_BODY) {
-        Some(body) => Ok(sequence(alloc, read_body(alloc, text, body)?)),
-        None => Ok(sequence(alloc, List::new(alloc))),
-    }
+    let members = read_body(alloc, text, node.the_child(names::STRUCT_BODY))?;
+    Ok(sequence(alloc, members))
 }
 
 /// The members of a SEQUENCE's body.
 #[cycle(reading)]
-#[tactic(auto, using(crate::proofs::Equations::body_is))]
+#[tactic(auto, using(crate::proofs::Equations::body_is, crate::proofs::Views::body_has_components))]
 fn read_body(alloc: Global, text: &[u8], node: &Node) -> Mem<List<SequenceOrSetMember>>
-    ensures { IfOk result (λ ms. ms ≡ body_of text.now node.now) }
+    requires { Is first text.now STRUCT_BODY node.now }
+    ensures { IfOk result (λ ms. body_of text.now node.now ≡ Some ms) }
 {
-    match node.child(names::COMPONENT_LIST) {
-        Some(list) => read_components(alloc, text, list),
-        None => Ok(List::new(alloc)),
-    }
+    read_components(alloc, text, node.the_child(names::COMPONENT_LIST))
 }
 
 /// The members of a list of components, one for each component.
 #[cycle(reading)]
 #[tactic(auto, using(crate::proofs::Equations::components_is))]
 fn read_components(alloc: Global, text: &[u8], node: &Node) -> Mem<List<SequenceOrSetMember>>
-    ensures { IfOk result (λ ms. ms ≡ components_of text.now node.now) }
+    requires { Is first text.now COMPONENT_LIST node.now }
+    ensures { IfOk result (λ ms. components_of text.now node.now ≡ Some ms) }
 {
-    read_component_list(alloc, text, node.children.as_slice())
+    read_component_list(alloc, text, children(text, node))
 }
 
 #[cycle(reading)]
+#[tactic(auto, using(crate::proofs::Views::as_rule, crate::proofs::Equations::takes_next, crate::proofs::Equations::passes_next))]
 fn read_component_list(alloc: Global, text: &[u8], nodes: &[Node]) -> Mem<List<SequenceOrSetMember>>
-    ensures { IfOk result (λ ms. ms ≡ at_children nodes.now 69 (component_of text.now)) }
+    requires { All (StandsBy first text.now) nodes.now }
+    ensures { IfOk result (λ ms. all_some (at_children nodes.now SEQUENCE_COMPONENT (component_of text.now)) ≡ Some ms) }
 {
     let mut members = List::new(alloc);
     for node in nodes {
@@ -171,14 +168,12 @@ fn read_component_list(alloc: Global, text: &[u8], nodes: &[Node]) -> Mem<List<S
 
 /// The member that a component is.
 #[cycle(reading)]
-#[tactic(auto, using(crate::proofs::Equations::component_is))]
+#[tactic(auto, using(crate::proofs::Equations::component_is, crate::proofs::Views::component_has_member))]
 fn read_component(alloc: Global, text: &[u8], node: &Node) -> Mem<SequenceOrSetMember>
-    ensures { IfOk result (λ m. m ≡ component_of text.now node.now) }
+    requires { Is first text.now SEQUENCE_COMPONENT node.now }
+    ensures { IfOk result (λ m. component_of text.now node.now ≡ Some m) }
 {
-    match node.child(names::SEQUENCE_OR_SET_MEMBER) {
-        Some(member) => read_member(alloc, text, member),
-        None => Ok(member(alloc, Text::new(alloc, "")?, boolean(alloc))),
-    }
+    read_member(alloc, text, node.the_child(names::SEQUENCE_OR_SET_MEMBER))
 }
 
 /// A member with this name and type and nothing else.
@@ -198,11 +193,12 @@ fn member(alloc: Global, name: Text, ty: ASN1Type) -> SequenceOrSetMember
 
 /// A member, by its name and type.
 #[cycle(reading)]
-#[tactic(auto, using(crate::proofs::Equations::member_is))]
+#[tactic(auto, using(crate::proofs::Equations::member_is, crate::proofs::Views::member_has_name, crate::proofs::Views::member_has_type, crate::proofs::Views::name_has_blanks))]
 fn read_member(alloc: Global, text: &[u8], node: &Node) -> Mem<SequenceOrSetMember>
-    ensures { IfOk result (λ m. m ≡ member_of text.now node.now) }
+    requires { Is first text.now SEQUENCE_OR_SET_MEMBER node.now }
+    ensures { IfOk result (λ m. member_of text.now node.now ≡ Some m) }
 {
-    let name = read_child_name(alloc, text, node, names::IDENTIFIER)?;
-    let ty = read_child_type(alloc, text, node, names::ASN1_TYPE)?;
+    let name = read_name(alloc, text, node.the_child(names::IDENTIFIER))?;
+    let ty = read_given_type(alloc, text, node.the_child(names::ASN1_TYPE))?;
     Ok(member(alloc, name, ty))
 }

@@ -6,7 +6,7 @@ ghost use Rattle.asn_rules.specs.Valid.{Fails, IsDeeper, IsValid};
 ghost use Rattle.asn_modules.specs.declared.whole.SpecError.TheVariants as fault;
 ghost use Rattle.asn_text.specs.declared.report.LexerError.{LexerError as OneError};
 ghost use Rattle.asn_tree.specs.declared.definitions.ToplevelDefinition.{ToplevelDefinition as OneDefinition};
-ghost use Rattle.asn_tree.specs.declared.headers.ModuleReference.{ModuleReference as OneHeader};
+ghost use Rattle.asn_headers.specs.declared.headers.ModuleReference.{ModuleReference as OneHeader};
 ghost use Rattle.std.specs.Prelude.{◌≡◌, ◌≤◌, ℕ, List as Sequence, Err, IfOk};
 
 use crate::modules::read_modules;
@@ -14,15 +14,19 @@ use asn_rules::{Grammar, MatchFault, RuleId, derive_rule, due_place, names, one_
 use asn_text::{LexerError, LexerErrorType, ReportData};
 use asn_tree::Reading;
 use std::alloc::Global;
+use thiserror::Error;
 
 /// Why a text has no reading.
-#[derive(Clone, Copy, Debug, PartialEq, Eq)]
+#[derive(Clone, Copy, Debug, Error, PartialEq, Eq)]
 pub enum SpecError {
     /// The text is none of the grammar, at a height within the depth: what is due, and where.
+    #[error("{0}")]
     Lexer(LexerError),
     /// The height of the text's derivation exceeds the depth.
+    #[error("the text nests deeper than is allowed")]
     TooDeep,
     /// Want of memory.
+    #[error("out of memory")]
     OutOfMemory,
 }
 

@@ -1,27 +1,15 @@
 -- What is read off a type without regard to tags is the same once the type is retagged.
-use Rattle.std.proofs.Common.{◌≡◌, List, [], ◌∷◌, map, refl, sym, ap, ◌∙◌, subst, Option}
-use Rattle.asn_tree.specs.declared.headers.AsnTag.{AsnTag}
-use Rattle.asn_tree.specs.declared.headers.TaggingEnvironment.{TaggingEnvironment}
-use Rattle.asn_tree.specs.declared.constraints.Constraint.{Constraint}
-use Rattle.asn_tree.specs.declared.constraints.ContentConstraint.{ContentConstraint}
-use Rattle.asn_tree.specs.declared.constraints.ElementOrSetOperation.{ElementOrSetOperation}
-use Rattle.asn_tree.specs.declared.constraints.Parameter.{Parameter}
-use Rattle.asn_tree.specs.declared.constraints.SubtypeElement.{SubtypeElement}
-use Rattle.asn_tree.specs.declared.objects.InformationObjectField.{InformationObjectField}
-use Rattle.asn_tree.specs.declared.objects.InformationObjectFields.{InformationObjectFields}
-use Rattle.asn_tree.specs.declared.objects.SyntaxApplication.{SyntaxApplication}
-use Rattle.asn_tree.specs.declared.types.ASN1Type.{ASN1Type, ASN1Type-F, roll-ASN1Type, out-roll-ASN1Type, map-ASN1Type, ind-ASN1Type}
-use Rattle.asn_tree.specs.declared.values.ASN1Value.{ASN1Value}
-use Rattle.asn_tree.specs.declared.constraints.SetOperation.{SetOperation}
-use Rattle.asn_tree.specs.declared.types.Choice.{Choice}
-use Rattle.asn_tree.specs.declared.types.ChoiceOption.{ChoiceOption}
-use Rattle.asn_tree.specs.declared.types.SequenceOrSet.{SequenceOrSet, SequenceOrSet-F, roll-SequenceOrSet, out-roll-SequenceOrSet, map-SequenceOrSet}
-use Rattle.asn_tree.specs.declared.types.SequenceOrSetMember.{SequenceOrSetMember, SequenceOrSetMember-F, roll-SequenceOrSetMember, out-roll-SequenceOrSetMember, map-SequenceOrSetMember}
-use Rattle.asn_tree.specs.declared.types.SequenceOrSetOf.{SequenceOrSetOf}
-use Rattle.asn_tree.specs.declared.values.LinkedField.{LinkedField}
+use Rattle.std.proofs.Common.{◌≡◌, List, [], ◌∷◌, map, refl, sym, ap, ◌∙◌, Option}
+use Rattle.asn_headers.specs.declared.headers.AsnTag.{AsnTag}
+use Rattle.asn_headers.specs.declared.headers.TaggingEnvironment.{TaggingEnvironment}
+use Rattle.asn_tree.specs.declared.types.ASN1Type.{ASN1Type, ASN1Type-F, roll-ASN1Type, out-roll-ASN1Type}
+use Rattle.asn_tree.specs.declared.types.SequenceOrSet.{SequenceOrSet, roll-SequenceOrSet, out-roll-SequenceOrSet}
+use Rattle.asn_tree.specs.declared.types.SequenceOrSetMember.{SequenceOrSetMember, roll-SequenceOrSetMember, out-roll-SequenceOrSetMember}
 use Rattle.asn_tree.specs.Folds.{Algebra, of_member, of_struct, of_type, member_is, member_read, struct_is, struct_read, type_is, type_read}
 use Rattle.asn_tree.specs.Passes.{member_rewritten, rewritten_member, rewritten_struct, rewritten_type, struct_parts, struct_rewritten, type_parts, type_rewritten}
 use Rattle.asn_tree.specs.Tagging.{retagging, retagged}
+use Rattle.asn_tree.specs.Inductions.{Shown, proved, bare_type, bare_struct, bare_member, each_type}
+use Rattle.asn_tree.specs.Layers.{TypeOver, StructOver, MemberOver, StructOf, MemberOf}
 use Rattle.asn_names.specs.Layers.{TypeLayer, StructLayer, MemberLayer}
 use Rattle.asn_names.specs.Meaning.{plainness, is_plain}
 use Rattle.asn_names.specs.Occurrences.{naming, names_in}
@@ -72,47 +60,32 @@ module _ (e : TaggingEnvironment) {A : Type 0} (a : Algebra A) where
       ap (λ c. c ∷ map (of_member a) (map (rewritten_member (retagging e)) (map (λ y. y.0) ys))) y.1
       ∙ ap (λ cs. of_member a y.0 ∷ cs) (members_same ys)
 
-  module _ (flat : (l : TypeLayer) → Flat l)
-      (of_members : (s : SequenceOrSet-F A A A A A A A A A A A A A A A A A) (cs : List A) → a.at_struct (record s { constraints = cs }) ≡ a.at_struct s)
-      (of_its_type : (m : SequenceOrSetMember-F A A A A A A A A A A A A A A A A A) (tag : Option AsnTag) (default : Option A) (cs : List A) → a.at_member (record m { tag = tag; default_value = default; constraints = cs }) ≡ a.at_member m) where
-    type_case : (y : ASN1Type-F ((x : Constraint) × Unit {0}) ((x : ContentConstraint) × Unit {0}) ((x : ElementOrSetOperation) × Unit {0}) ((x : Parameter) × Unit {0}) ((x : SubtypeElement) × Unit {0}) ((x : InformationObjectField) × Unit {0}) ((x : InformationObjectFields) × Unit {0}) ((x : SyntaxApplication) × Unit {0}) ((x : ASN1Type) × TypeSame x) ((x : ASN1Value) × Unit {0}) ((x : SetOperation) × Unit {0}) ((x : Choice) × Unit {0}) ((x : ChoiceOption) × Unit {0}) ((x : SequenceOrSet) × StructSame x) ((x : SequenceOrSetMember) × MemberSame x) ((x : SequenceOrSetOf) × Unit {0}) ((x : LinkedField) × Unit {0})) → TypeSame (roll-ASN1Type (map-ASN1Type ((x : Constraint) × Unit {0}) ((x : ContentConstraint) × Unit {0}) ((x : ElementOrSetOperation) × Unit {0}) ((x : Parameter) × Unit {0}) ((x : SubtypeElement) × Unit {0}) ((x : InformationObjectField) × Unit {0}) ((x : InformationObjectFields) × Unit {0}) ((x : SyntaxApplication) × Unit {0}) ((x : ASN1Type) × TypeSame x) ((x : ASN1Value) × Unit {0}) ((x : SetOperation) × Unit {0}) ((x : Choice) × Unit {0}) ((x : ChoiceOption) × Unit {0}) ((x : SequenceOrSet) × StructSame x) ((x : SequenceOrSetMember) × MemberSame x) ((x : SequenceOrSetOf) × Unit {0}) ((x : LinkedField) × Unit {0}) Constraint ContentConstraint ElementOrSetOperation Parameter SubtypeElement InformationObjectField InformationObjectFields SyntaxApplication ASN1Type ASN1Value SetOperation Choice ChoiceOption SequenceOrSet SequenceOrSetMember SequenceOrSetOf LinkedField (λ y. y.0) (λ y. y.0) (λ y. y.0) (λ y. y.0) (λ y. y.0) (λ y. y.0) (λ y. y.0) (λ y. y.0) (λ y. y.0) (λ y. y.0) (λ y. y.0) (λ y. y.0) (λ y. y.0) (λ y. y.0) (λ y. y.0) (λ y. y.0) (λ y. y.0) y))
-    type_case (ASN1Type-F.Sequence s) = type_at (ASN1Type-F.Sequence s.0) (ap (λ b. a.at_type (ASN1Type-F.Sequence b)) s.1)
-    type_case y = type_at (map-ASN1Type ((x : Constraint) × Unit {0}) ((x : ContentConstraint) × Unit {0}) ((x : ElementOrSetOperation) × Unit {0}) ((x : Parameter) × Unit {0}) ((x : SubtypeElement) × Unit {0}) ((x : InformationObjectField) × Unit {0}) ((x : InformationObjectFields) × Unit {0}) ((x : SyntaxApplication) × Unit {0}) ((x : ASN1Type) × TypeSame x) ((x : ASN1Value) × Unit {0}) ((x : SetOperation) × Unit {0}) ((x : Choice) × Unit {0}) ((x : ChoiceOption) × Unit {0}) ((x : SequenceOrSet) × StructSame x) ((x : SequenceOrSetMember) × MemberSame x) ((x : SequenceOrSetOf) × Unit {0}) ((x : LinkedField) × Unit {0}) Constraint ContentConstraint ElementOrSetOperation Parameter SubtypeElement InformationObjectField InformationObjectFields SyntaxApplication ASN1Type ASN1Value SetOperation Choice ChoiceOption SequenceOrSet SequenceOrSetMember SequenceOrSetOf LinkedField (λ y. y.0) (λ y. y.0) (λ y. y.0) (λ y. y.0) (λ y. y.0) (λ y. y.0) (λ y. y.0) (λ y. y.0) (λ y. y.0) (λ y. y.0) (λ y. y.0) (λ y. y.0) (λ y. y.0) (λ y. y.0) (λ y. y.0) (λ y. y.0) (λ y. y.0) y) (flat (map-ASN1Type ((x : Constraint) × Unit {0}) ((x : ContentConstraint) × Unit {0}) ((x : ElementOrSetOperation) × Unit {0}) ((x : Parameter) × Unit {0}) ((x : SubtypeElement) × Unit {0}) ((x : InformationObjectField) × Unit {0}) ((x : InformationObjectFields) × Unit {0}) ((x : SyntaxApplication) × Unit {0}) ((x : ASN1Type) × TypeSame x) ((x : ASN1Value) × Unit {0}) ((x : SetOperation) × Unit {0}) ((x : Choice) × Unit {0}) ((x : ChoiceOption) × Unit {0}) ((x : SequenceOrSet) × StructSame x) ((x : SequenceOrSetMember) × MemberSame x) ((x : SequenceOrSetOf) × Unit {0}) ((x : LinkedField) × Unit {0}) Constraint ContentConstraint ElementOrSetOperation Parameter SubtypeElement InformationObjectField InformationObjectFields SyntaxApplication ASN1Type ASN1Value SetOperation Choice ChoiceOption SequenceOrSet SequenceOrSetMember SequenceOrSetOf LinkedField (λ y. y.0) (λ y. y.0) (λ y. y.0) (λ y. y.0) (λ y. y.0) (λ y. y.0) (λ y. y.0) (λ y. y.0) (λ y. y.0) (λ y. y.0) (λ y. y.0) (λ y. y.0) (λ y. y.0) (λ y. y.0) (λ y. y.0) (λ y. y.0) (λ y. y.0) y))
+  abbrev shown : Shown
+  shown = record { of_types = TypeSame; of_structs = StructSame; of_members = MemberSame }
 
-    struct_case : (y : SequenceOrSet-F ((x : Constraint) × Unit {0}) ((x : ContentConstraint) × Unit {0}) ((x : ElementOrSetOperation) × Unit {0}) ((x : Parameter) × Unit {0}) ((x : SubtypeElement) × Unit {0}) ((x : InformationObjectField) × Unit {0}) ((x : InformationObjectFields) × Unit {0}) ((x : SyntaxApplication) × Unit {0}) ((x : ASN1Type) × TypeSame x) ((x : ASN1Value) × Unit {0}) ((x : SetOperation) × Unit {0}) ((x : Choice) × Unit {0}) ((x : ChoiceOption) × Unit {0}) ((x : SequenceOrSet) × StructSame x) ((x : SequenceOrSetMember) × MemberSame x) ((x : SequenceOrSetOf) × Unit {0}) ((x : LinkedField) × Unit {0})) → StructSame (roll-SequenceOrSet (map-SequenceOrSet ((x : Constraint) × Unit {0}) ((x : ContentConstraint) × Unit {0}) ((x : ElementOrSetOperation) × Unit {0}) ((x : Parameter) × Unit {0}) ((x : SubtypeElement) × Unit {0}) ((x : InformationObjectField) × Unit {0}) ((x : InformationObjectFields) × Unit {0}) ((x : SyntaxApplication) × Unit {0}) ((x : ASN1Type) × TypeSame x) ((x : ASN1Value) × Unit {0}) ((x : SetOperation) × Unit {0}) ((x : Choice) × Unit {0}) ((x : ChoiceOption) × Unit {0}) ((x : SequenceOrSet) × StructSame x) ((x : SequenceOrSetMember) × MemberSame x) ((x : SequenceOrSetOf) × Unit {0}) ((x : LinkedField) × Unit {0}) Constraint ContentConstraint ElementOrSetOperation Parameter SubtypeElement InformationObjectField InformationObjectFields SyntaxApplication ASN1Type ASN1Value SetOperation Choice ChoiceOption SequenceOrSet SequenceOrSetMember SequenceOrSetOf LinkedField (λ y. y.0) (λ y. y.0) (λ y. y.0) (λ y. y.0) (λ y. y.0) (λ y. y.0) (λ y. y.0) (λ y. y.0) (λ y. y.0) (λ y. y.0) (λ y. y.0) (λ y. y.0) (λ y. y.0) (λ y. y.0) (λ y. y.0) (λ y. y.0) (λ y. y.0) y))
+  module _ (flat : (l : TypeLayer) → Flat l)
+      (of_members : (s : StructOf A) (cs : List A) → a.at_struct (record s { constraints = cs }) ≡ a.at_struct s)
+      (of_its_type : (m : MemberOf A) (tag : Option AsnTag) (default : Option A) (cs : List A) → a.at_member (record m { tag = tag; default_value = default; constraints = cs }) ≡ a.at_member m) where
+    type_case : (y : TypeOver (proved shown)) → TypeSame (roll-ASN1Type (bare_type shown y))
+    type_case (ASN1Type-F.Sequence s) = type_at (ASN1Type-F.Sequence s.0) (ap (λ b. a.at_type (ASN1Type-F.Sequence b)) s.1)
+    type_case y = type_at (bare_type shown y) (flat (bare_type shown y))
+
+    struct_case : (y : StructOver (proved shown)) → StructSame (roll-SequenceOrSet (bare_struct shown y))
     struct_case y =
-        let l = map-SequenceOrSet ((x : Constraint) × Unit {0}) ((x : ContentConstraint) × Unit {0}) ((x : ElementOrSetOperation) × Unit {0}) ((x : Parameter) × Unit {0}) ((x : SubtypeElement) × Unit {0}) ((x : InformationObjectField) × Unit {0}) ((x : InformationObjectFields) × Unit {0}) ((x : SyntaxApplication) × Unit {0}) ((x : ASN1Type) × TypeSame x) ((x : ASN1Value) × Unit {0}) ((x : SetOperation) × Unit {0}) ((x : Choice) × Unit {0}) ((x : ChoiceOption) × Unit {0}) ((x : SequenceOrSet) × StructSame x) ((x : SequenceOrSetMember) × MemberSame x) ((x : SequenceOrSetOf) × Unit {0}) ((x : LinkedField) × Unit {0}) Constraint ContentConstraint ElementOrSetOperation Parameter SubtypeElement InformationObjectField InformationObjectFields SyntaxApplication ASN1Type ASN1Value SetOperation Choice ChoiceOption SequenceOrSet SequenceOrSetMember SequenceOrSetOf LinkedField (λ y. y.0) (λ y. y.0) (λ y. y.0) (λ y. y.0) (λ y. y.0) (λ y. y.0) (λ y. y.0) (λ y. y.0) (λ y. y.0) (λ y. y.0) (λ y. y.0) (λ y. y.0) (λ y. y.0) (λ y. y.0) (λ y. y.0) (λ y. y.0) (λ y. y.0) y in
+        let l = bare_struct shown y in
         let s = struct_read a l in
         let s' = struct_read a (struct_parts (retagging e) l) in
         struct_at l (ap (λ ms. a.at_struct (record s' { members = ms })) (members_same y.members) ∙ of_members s s'.constraints)
 
-    member_case : (y : SequenceOrSetMember-F ((x : Constraint) × Unit {0}) ((x : ContentConstraint) × Unit {0}) ((x : ElementOrSetOperation) × Unit {0}) ((x : Parameter) × Unit {0}) ((x : SubtypeElement) × Unit {0}) ((x : InformationObjectField) × Unit {0}) ((x : InformationObjectFields) × Unit {0}) ((x : SyntaxApplication) × Unit {0}) ((x : ASN1Type) × TypeSame x) ((x : ASN1Value) × Unit {0}) ((x : SetOperation) × Unit {0}) ((x : Choice) × Unit {0}) ((x : ChoiceOption) × Unit {0}) ((x : SequenceOrSet) × StructSame x) ((x : SequenceOrSetMember) × MemberSame x) ((x : SequenceOrSetOf) × Unit {0}) ((x : LinkedField) × Unit {0})) → MemberSame (roll-SequenceOrSetMember (map-SequenceOrSetMember ((x : Constraint) × Unit {0}) ((x : ContentConstraint) × Unit {0}) ((x : ElementOrSetOperation) × Unit {0}) ((x : Parameter) × Unit {0}) ((x : SubtypeElement) × Unit {0}) ((x : InformationObjectField) × Unit {0}) ((x : InformationObjectFields) × Unit {0}) ((x : SyntaxApplication) × Unit {0}) ((x : ASN1Type) × TypeSame x) ((x : ASN1Value) × Unit {0}) ((x : SetOperation) × Unit {0}) ((x : Choice) × Unit {0}) ((x : ChoiceOption) × Unit {0}) ((x : SequenceOrSet) × StructSame x) ((x : SequenceOrSetMember) × MemberSame x) ((x : SequenceOrSetOf) × Unit {0}) ((x : LinkedField) × Unit {0}) Constraint ContentConstraint ElementOrSetOperation Parameter SubtypeElement InformationObjectField InformationObjectFields SyntaxApplication ASN1Type ASN1Value SetOperation Choice ChoiceOption SequenceOrSet SequenceOrSetMember SequenceOrSetOf LinkedField (λ y. y.0) (λ y. y.0) (λ y. y.0) (λ y. y.0) (λ y. y.0) (λ y. y.0) (λ y. y.0) (λ y. y.0) (λ y. y.0) (λ y. y.0) (λ y. y.0) (λ y. y.0) (λ y. y.0) (λ y. y.0) (λ y. y.0) (λ y. y.0) (λ y. y.0) y))
+    member_case : (y : MemberOver (proved shown)) → MemberSame (roll-SequenceOrSetMember (bare_member shown y))
     member_case y =
-        let l = map-SequenceOrSetMember ((x : Constraint) × Unit {0}) ((x : ContentConstraint) × Unit {0}) ((x : ElementOrSetOperation) × Unit {0}) ((x : Parameter) × Unit {0}) ((x : SubtypeElement) × Unit {0}) ((x : InformationObjectField) × Unit {0}) ((x : InformationObjectFields) × Unit {0}) ((x : SyntaxApplication) × Unit {0}) ((x : ASN1Type) × TypeSame x) ((x : ASN1Value) × Unit {0}) ((x : SetOperation) × Unit {0}) ((x : Choice) × Unit {0}) ((x : ChoiceOption) × Unit {0}) ((x : SequenceOrSet) × StructSame x) ((x : SequenceOrSetMember) × MemberSame x) ((x : SequenceOrSetOf) × Unit {0}) ((x : LinkedField) × Unit {0}) Constraint ContentConstraint ElementOrSetOperation Parameter SubtypeElement InformationObjectField InformationObjectFields SyntaxApplication ASN1Type ASN1Value SetOperation Choice ChoiceOption SequenceOrSet SequenceOrSetMember SequenceOrSetOf LinkedField (λ y. y.0) (λ y. y.0) (λ y. y.0) (λ y. y.0) (λ y. y.0) (λ y. y.0) (λ y. y.0) (λ y. y.0) (λ y. y.0) (λ y. y.0) (λ y. y.0) (λ y. y.0) (λ y. y.0) (λ y. y.0) (λ y. y.0) (λ y. y.0) (λ y. y.0) y in
+        let l = bare_member shown y in
         let m = member_read a l in
         let m' = member_read a (member_layer e l) in
         member_at l (ap (λ t. a.at_member (record m' { ty = t })) y.ty.1 ∙ of_its_type m m'.tag m'.default_value m'.constraints)
 
     pub same : (x : ASN1Type) → TypeSame x
-    same =
-        ind-ASN1Type (λ x. Unit {0}) (λ x. Unit {0}) (λ x. Unit {0}) (λ x. Unit {0}) (λ x. Unit {0}) (λ x. Unit {0}) (λ x. Unit {0}) (λ x. Unit {0}) TypeSame (λ x. Unit {0}) (λ x. Unit {0}) (λ x. Unit {0}) (λ x. Unit {0}) StructSame MemberSame (λ x. Unit {0}) (λ x. Unit {0})
-        (λ x y is. tt)
-        (λ x y is. tt)
-        (λ x y is. tt)
-        (λ x y is. tt)
-        (λ x y is. tt)
-        (λ x y is. tt)
-        (λ x y is. tt)
-        (λ x y is. tt)
-        (λ x y is. subst (λ z. TypeSame (roll-ASN1Type z)) is (type_case y))
-        (λ x y is. tt)
-        (λ x y is. tt)
-        (λ x y is. tt)
-        (λ x y is. tt)
-        (λ x y is. subst (λ z. StructSame (roll-SequenceOrSet z)) is (struct_case y))
-        (λ x y is. subst (λ z. MemberSame (roll-SequenceOrSetMember z)) is (member_case y))
-        (λ x y is. tt)
-        (λ x y is. tt)
+    same = each_type shown type_case struct_case member_case
 
 pub names_kept : (e : TaggingEnvironment) (ty : ASN1Type) → names_in (retagged e ty) ≡ names_in ty
 unfolding names_in

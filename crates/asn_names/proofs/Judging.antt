@@ -3,7 +3,7 @@ use Rattle.std.proofs.Common.{◌≡◌, ℕ, zero, suc, ◌+◌, ◌-◌, ◌<�
 use Rattle.std.proofs.lemmas.List.{drop_more}
 use Rattle.asn_tree.specs.declared.constraints.Constraint.{Constraint, out-Constraint}
 use Rattle.asn_tree.specs.declared.constraints.Constraint.TheVariants.{SubtypeConstraint, outs-SubtypeConstraint}
-use Rattle.asn_tree.specs.declared.constraints.ElementSetOver.{ElementSetOver}
+use Rattle.asn_kinds.specs.declared.constraints.ElementSetOver.{ElementSetOver}
 use Rattle.asn_tree.specs.declared.constraints.ElementOrSetOperation.{ElementOrSetOperation, out-ElementOrSetOperation}
 use Rattle.asn_tree.specs.declared.constraints.ElementOrSetOperation.TheVariants.{Element, outs-Element}
 use Rattle.asn_tree.specs.declared.constraints.SubtypeElement.{SubtypeElement, SubtypeElement-F, out-SubtypeElement, roll-SubtypeElement, roll-out-SubtypeElement}

@@ -10,7 +10,7 @@ use Rattle.asn_tree.specs.declared.definitions.ToplevelDefinition.{ToplevelDefin
 use Rattle.asn_tree.specs.declared.definitions.ToplevelDefinition.TheVariants.{TypeDef, Value, Information}
 use Rattle.asn_tree.specs.declared.types.ASN1Type.{ASN1Type, ASN1Type-F, out-ASN1Type, roll-ASN1Type, roll-out-ASN1Type}
 use Rattle.asn_tree.specs.declared.types.ASN1Type.TheVariants.{Sequence, ElsewhereDeclaredType, outs-Sequence, outs-ElsewhereDeclaredType}
-use Rattle.asn_tree.specs.declared.types.DeclarationElsewhereOver.{DeclarationElsewhereOver}
+use Rattle.asn_kinds.specs.declared.types.DeclarationElsewhereOver.{DeclarationElsewhereOver}
 use Rattle.asn_tree.specs.declared.types.SequenceOrSet.{SequenceOrSet, out-SequenceOrSet}
 use Rattle.asn_tree.specs.declared.types.SequenceOrSetMember.{SequenceOrSetMember, out-SequenceOrSetMember}
 use Rattle.asn_tree.specs.Folds.{of_member, member_is, struct_is, type_is, type_read}

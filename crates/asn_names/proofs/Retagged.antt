@@ -3,7 +3,7 @@ use Rattle.std.proofs.Common.{◌≡◌, ap, ◌∙◌}
 use Rattle.asn_tree.specs.declared.constraints.Constraint.{Constraint, out-Constraint, out-roll-Constraint}
 use Rattle.asn_tree.specs.declared.constraints.ElementOrSetOperation.{ElementOrSetOperation, out-ElementOrSetOperation, out-roll-ElementOrSetOperation}
 use Rattle.asn_tree.specs.declared.constraints.SubtypeElement.{SubtypeElement, out-SubtypeElement, out-roll-SubtypeElement}
-use Rattle.asn_tree.specs.declared.headers.TaggingEnvironment.{TaggingEnvironment}
+use Rattle.asn_headers.specs.declared.headers.TaggingEnvironment.{TaggingEnvironment}
 use Rattle.asn_tree.specs.declared.types.ASN1Type.{ASN1Type, out-ASN1Type, out-roll-ASN1Type}
 use Rattle.asn_tree.specs.declared.types.SequenceOrSet.{SequenceOrSet, out-SequenceOrSet, out-roll-SequenceOrSet}
 use Rattle.asn_tree.specs.declared.types.SequenceOrSetMember.{SequenceOrSetMember, out-SequenceOrSetMember, out-roll-SequenceOrSetMember}

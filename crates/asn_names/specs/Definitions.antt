@@ -7,7 +7,7 @@ use Rattle.std.specs.Str.{bytes_eq}
 pub use Rattle.asn_tree.specs.Calls.{name_of}
 use Rattle.asn_tree.specs.declared.definitions.ToplevelDefinition.{ToplevelDefinition}
 use Rattle.asn_tree.specs.declared.definitions.ToplevelDefinition.TheVariants.{TypeDef, Value, Information}
-use Rattle.asn_tree.specs.declared.headers.ModuleReference.{ModuleReference}
+use Rattle.asn_headers.specs.declared.headers.ModuleReference.{ModuleReference}
 use Rattle.asn_tree.specs.declared.types.ASN1Type.{ASN1Type}
 
 abbrev pub Definitions : Type 0

@@ -2,7 +2,7 @@
 use Rattle.std.specs.Prelude.{◌≡◌, ℕ, ◌+◌, List, Option, Some, None, Bool, true, false}
 use Rattle.std.specs.List.{All}
 use Rattle.asn_tree.specs.declared.definitions.ToplevelDefinition.{ToplevelDefinition}
-use Rattle.asn_tree.specs.declared.headers.TaggingEnvironment.{TaggingEnvironment}
+use Rattle.asn_headers.specs.declared.headers.TaggingEnvironment.{TaggingEnvironment}
 use Rattle.asn_tree.specs.declared.types.ASN1Type.{ASN1Type, ASN1Type-F, out-ASN1Type}
 use Rattle.asn_names.specs.Answers.{Refines, Yes}
 use Rattle.asn_names.specs.Definitions.{Definitions, Module, definitions_of, see, type_of, type_named, IsStanding}

@@ -5,6 +5,7 @@ use Rattle.asn_tree.specs.declared.types.ASN1Type.{ASN1Type, ASN1Type-F}
 use Rattle.asn_tree.specs.declared.types.SequenceOrSet.{SequenceOrSet-F}
 use Rattle.asn_tree.specs.declared.types.SequenceOrSetMember.{SequenceOrSetMember-F}
 use Rattle.asn_tree.specs.Folds.{Algebra, constant, of_type}
+use Rattle.asn_tree.specs.Layers.{TypeOf, StructOf, MemberOf}
 use Rattle.asn_names.specs.Answers.{Yes, No, IsKnown}
 use Rattle.asn_names.specs.Definitions.{Definitions}
 use Rattle.asn_names.specs.Judge.{OfType, judge}
@@ -33,17 +34,17 @@ has_no_name [] = true
 has_no_name (name ∷ names) = false
 
 -- one level of a type, where its parts are plain or not; a form that no text has yet is not
-abbrev pub type_plain : ASN1Type-F Bool Bool Bool Bool Bool Bool Bool Bool Bool Bool Bool Bool Bool Bool Bool Bool Bool → Bool
+abbrev pub type_plain : TypeOf Bool → Bool
 type_plain (ASN1Type-F.ASN1Type::Boolean x) = true
 type_plain (ASN1Type-F.ASN1Type::Integer x) = true
 type_plain (ASN1Type-F.Sequence x) = x
 type_plain (ASN1Type-F.ElsewhereDeclaredType x) = true
 type_plain _ = false
 
-abbrev pub struct_plain : SequenceOrSet-F Bool Bool Bool Bool Bool Bool Bool Bool Bool Bool Bool Bool Bool Bool Bool Bool Bool → Bool
+abbrev pub struct_plain : StructOf Bool → Bool
 struct_plain x = has_no_name x.components_of && list_all (λ b. b) x.members
 
-abbrev pub member_plain : SequenceOrSetMember-F Bool Bool Bool Bool Bool Bool Bool Bool Bool Bool Bool Bool Bool Bool Bool Bool Bool → Bool
+abbrev pub member_plain : MemberOf Bool → Bool
 member_plain x = x.ty
 
 abbrev pub plainness : Algebra Bool

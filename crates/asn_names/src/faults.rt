@@ -17,8 +17,7 @@ pub enum Fault {
 }
 
 impl<'t> Names<'t> {
-    /// The first fault that stands in a definition. Its work grows with the definition, times the logarithm of the
-    /// number of names.
+    /// The first fault that stands in a definition.
     pub fn fault(&self, definition: &ToplevelDefinition) -> Option<Fault>
         ensures { result ≡ fault_of self.now.definitions.now definition.now }
     {

@@ -16,7 +16,7 @@ use std::alloc::Global;
 use std::collections::BTreeMap;
 
 impl<'t> Names<'t> {
-    /// An index of these definitions. Its work grows as n log n with the number of definitions.
+    /// An index of these definitions.
     pub fn new(alloc: Global, definitions: &'t List<ToplevelDefinition>) -> Mem<Names<'t>>
         ensures { IfOk result (λ names. names.definitions.now ≡ definitions.now) }
     {

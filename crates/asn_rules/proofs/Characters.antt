@@ -1,19 +1,19 @@
 -- In a text of characters, what begins between two characters ends between two.
 use Rattle.std.proofs.Common.{◌≡◌, ℕ, zero, suc, ◌+◌, ◌<◌, ◌≤◌, List, [], ◌∷◌, Bool, true, false, length, get_or, drop, refl, sym, ap, subst, arith, ◌⊎◌, inl, inr}
-use Rattle.std.specs.Prelude.{nat_eq, nat_lt, ◌&&◌, ◌||◌, if◌then◌else◌, slice_range}
-use Rattle.std.specs.List.{starts_with, list_all}
+use Rattle.std.specs.Prelude.{codes, nat_eq, nat_lt, ◌&&◌, ◌||◌, if◌then◌else◌, slice_range}
+use Rattle.std.specs.List.{starts_with, list_all, list_any}
 use Rattle.std.specs.Str.{IsUtf8, IsCharBoundary}
 use Rattle.std.proofs.Math.Seq.{drop-cons}
 use Rattle.std.proofs.lemmas.List.{drop_all}
 use Rattle.std.proofs.lemmas.Str.{IsCharBoundary-end, IsCharBoundary-before_ascii, IsCharBoundary-after_ascii}
 use Rattle.std.proofs.lemmas.Bool.{cases_lt}
 use Rattle.std.proofs.lemmas.Bool.Decides.{nat_tests}
-use Rattle.asn_rules.specs.Expression.{Expression, see, seq, choice, many, never, guarded, rule, skip, Sight, bytes, word, one_of, rule_of}
+use Rattle.asn_rules.specs.Expression.{Expression, see, marked, seq, choice, many, never, guarded, rule, skip, Sight, bytes, word, one_of, rule_of}
 use Rattle.asn_rules.specs.Lexical.{in_class, first_in, stands, width, word_ends}
 use Rattle.asn_rules.specs.Guards.{allows}
-use Rattle.asn_rules.specs.Runs.{Ending, ends, fails, seen, judged, Runs, sees, seq_ends, seq_fails, choice_first, choice_second, many_turn, many_idle, many_fails, never_ends, never_fails, guard_judges, guard_fails, calls, skips}
+use Rattle.asn_rules.specs.Runs.{Ending, ends, fails, seen, judged, Runs, sees, sees_mark, seq_ends, seq_fails, choice_first, choice_second, many_turn, many_idle, many_fails, never_ends, never_fails, guard_judges, guard_fails, calls, skips}
 use Rattle.asn_rules.specs.declared.expression.ByteClass.{ByteClass}
-use Rattle.asn_rules.specs.declared.expression.ByteClass.TheVariants.{Blank, Digit, Letter, Lower, Upper, Alnum, Cap, LineFeed, Any}
+use Rattle.asn_rules.specs.declared.expression.ByteClass.TheVariants.{Blank, Digit, Letter, Lower, Upper, Alnum, Cap, HexLetter, TimeMark, LabelMark, LineFeed, Any}
 use Rattle.asn_rules.specs.declared.expression.Guard.{Guard}
 use Rattle.asn_rules.proofs.Theory.{runs_lies}
 use Rattle.asn_rules.proofs.Total.{takes_byte, checked, and_both, or_either, moves}
@@ -29,6 +29,9 @@ is_narrow Lower = true
 is_narrow Upper = true
 is_narrow Alnum = true
 is_narrow Cap = true
+is_narrow HexLetter = true
+is_narrow TimeMark = true
+is_narrow LabelMark = true
 is_narrow LineFeed = true
 is_narrow Any = false
 
@@ -40,15 +43,77 @@ stops (word []) = false
 stops (word (b ∷ bs)) = is_ascii b
 stops (one_of c) = is_narrow c
 
--- it ends before such a byte, having taken nothing
-abbrev rests : Expression → Bool
-rests (never (see s)) = stops s
-rests _ = false
+-- what an expression does before such a byte: it fails, or it ends there, having taken nothing, or either
+pub data Course : Type 0 where
+  halts : Course
+  rests : Course
+  open_ended : Course
+
+-- of rules 0 to 5
+abbrev courses : List Course
+courses = open_ended ∷ rests ∷ halts ∷ halts ∷ open_ended ∷ halts ∷ []
+
+abbrev then_course : Course → Course → Course
+then_course halts c = halts
+then_course rests c = c
+then_course open_ended c = open_ended
+
+abbrev else_course : Course → Course → Course
+else_course halts c = c
+else_course rests c = rests
+else_course open_ended c = open_ended
+
+abbrev turned_course : Course → Course
+turned_course halts = rests
+turned_course rests = halts
+turned_course open_ended = open_ended
+
+abbrev many_course : Course → Course
+many_course halts = rests
+many_course rests = rests
+many_course open_ended = open_ended
+
+abbrev guarded_course : Course → Course
+guarded_course halts = halts
+guarded_course rests = open_ended
+guarded_course open_ended = open_ended
+
+abbrev pub course : Expression → Course
+course (see s) = if stops s then halts else open_ended
+course (marked m s) = if stops s then halts else open_ended
+course (seq a b) = then_course (course a) (course b)
+course (choice a b) = else_course (course a) (course b)
+course (many a) = many_course (course a)
+course (never a) = turned_course (course a)
+course (guarded a g) = guarded_course (course a)
+course (rule r) = get_or courses r open_ended
+course (skip r) = get_or courses r open_ended
+
+-- the first is right, or says nothing
+abbrev says : Course → Course → Bool
+says open_ended c = true
+says halts halts = true
+says halts c = false
+says rests rests = true
+says rests c = false
+
+abbrev pub says_each : List Course → List Expression → Bool
+says_each [] es = true
+says_each (c ∷ cs) [] = false
+says_each (c ∷ cs) (e ∷ es) = says c (course e) && says_each cs es
+
+abbrev pub are_right : List Expression → Bool
+are_right es = says_each courses es
+
+abbrev is_rest : Course → Bool
+is_rest halts = false
+is_rest rests = true
+is_rest open_ended = false
 
 -- it does not fail before such a byte
 abbrev passes : Expression → Bool
 passes (see (one_of Any)) = true
-passes (seq a b) = rests a && passes b
+passes (seq a b) = is_rest (course a) && passes b
 passes (choice a b) = passes a || passes b
 passes _ = false
 
@@ -66,6 +131,7 @@ goes_on t _ = false
 -- it ends between characters, where the rules do
 abbrev pub clean : List Bool → Expression → Bool
 clean t (see s) = is_plain s
+clean t (marked m s) = is_plain s
 clean t (seq a b) = clean t a && clean t b
 clean t (choice a b) = clean t a && clean t b
 clean t (many a) = clean t a || goes_on t (many a)
@@ -73,6 +139,12 @@ clean t (never a) = true
 clean t (guarded a g) = clean t a
 clean t (rule r) = true
 clean t (skip r) = true
+
+one_is : (b : ℕ) (xs : List ℕ) → list_all is_ascii xs ≡ true → list_any (nat_eq b) xs ≡ true → b < 128
+one_is b [] a e = absurd cc
+one_is b (x ∷ xs) a e =
+    let both = and_both (is_ascii x) (list_all is_ascii xs) a in
+    elim (or_either (nat_eq b x) (list_any (nat_eq b) xs) e) [ inl y ↦ grind (arith, nat_tests, both.0, y) | inr z ↦ one_is b xs both.1 z ]
 
 narrow_is : (c : ByteClass) (b : ℕ) → is_narrow c ≡ true → in_class c b ≡ true → b < 128
 narrow_is Blank b n e = grind (arith, nat_tests, e)
@@ -82,6 +154,9 @@ narrow_is Lower b n e = grind (arith, nat_tests, e)
 narrow_is Upper b n e = grind (arith, nat_tests, e)
 narrow_is Alnum b n e = grind (arith, nat_tests, e)
 narrow_is Cap b n e = grind (arith, nat_tests, e)
+narrow_is HexLetter b n e = grind (arith, nat_tests, e)
+narrow_is TimeMark b n e = one_is b (codes "+-:.,/CDHMRPSTWYZ") refl e
+narrow_is LabelMark b n e = one_is b (codes "-_~./") refl e
 narrow_is LineFeed b n e = grind (arith, nat_tests, e)
 narrow_is Any b n e = absurd cc
 
@@ -166,15 +241,119 @@ module _ (text : List ℕ) where
       go (inl lt) (inr high) = absurd (n (lt, high))
       go (inr ge) x = let same : length text ≡ i = omega arith in subst (IsCharBoundary text) same (IsCharBoundary-end text)
 
-module _ (rules : List Expression) (text : List ℕ) (t : List Bool) (ranks : List ℕ) (fine : checked t ranks rules t ranks ≡ true) (all_clean : list_all (clean t) rules ≡ true) (utf8 : IsUtf8 text) where
-  stop_fails : {a : Expression} {i h : ℕ} {o : Ending} → Runs rules text a i o h → High text i → rests (never a) ≡ true → o ≡ fails
-  stop_fails (sees {s} {i}) high e = stopped_fails text s i high e
-  stop_fails _ high e = absurd cc
+module _ (rules : List Expression) (text : List ℕ) (t : List Bool) (ranks : List ℕ) (fine : checked t ranks rules t ranks ≡ true) (all_clean : list_all (clean t) rules ≡ true) (all_right : are_right rules ≡ true) (utf8 : IsUtf8 text) where
+  abbrev Follows : Course → ℕ → Ending → Type 0
+  Follows halts i o = o ≡ fails
+  Follows rests i o = o ≡ ends i
+  Follows open_ended i o = Unit {0}
 
-  rested : {e : Expression} {i h : ℕ} {o : Ending} → Runs rules text e i o h → High text i → rests e ≡ true → o ≡ ends i
-  rested (never_ends p) high e = refl
-  rested (never_fails {i = i} {j = j} p) high e = let stop = stop_fails p high e in absurd cc
-  rested _ high e = absurd cc
+  says_row : (cs : List Course) (es : List Expression) → says_each cs es ≡ true → (r : ℕ) → says (get_or cs r open_ended) (course (rule_of es r)) ≡ true
+  says_row [] es e r = refl
+  says_row (c ∷ cs) [] e r = absurd cc
+  says_row (c ∷ cs) (x ∷ es) e zero = (and_both (says c (course x)) (says_each cs es) e).0
+  says_row (c ∷ cs) (x ∷ es) e (suc r) = says_row cs es (and_both (says c (course x)) (says_each cs es) e).1 r
+
+  said : (c d : Course) (i : ℕ) (o : Ending) → says c d ≡ true → Follows d i o → Follows c i o
+  said open_ended d i o e f = tt
+  said halts halts i o e f = f
+  said halts rests i o e f = absurd cc
+  said halts open_ended i o e f = absurd cc
+  said rests halts i o e f = absurd cc
+  said rests rests i o e f = f
+  said rests open_ended i o e f = absurd cc
+
+  see_follows : (s : Sight) (i : ℕ) → High text i → Follows (if stops s then halts else open_ended) i (seen text s i)
+  see_follows s i high = go (stops s) refl
+    where
+      go : (b : Bool) → stops s ≡ b → Follows (if b then halts else open_ended) i (seen text s i)
+      go true e = stopped_fails text s i high e
+      go false e = tt
+
+  ends_same : {i j : ℕ} → ◌≡◌ {A = Ending} (ends j) (ends i) → j ≡ i
+  ends_same e = cc
+
+  no_end : {j : ℕ} → ◌≡◌ {A = Ending} (ends j) fails → ⊥
+  no_end e = cc
+
+  no_failure : {i : ℕ} → ◌≡◌ {A = Ending} fails (ends i) → ⊥
+  no_failure e = cc
+
+  seq_follows : (c d : Course) (i j : ℕ) (o : Ending) → Follows c i (ends j) → (j ≡ i → Follows d i o) → Follows (then_course c d) i o
+  seq_follows halts d i j o f g = absurd (no_end f)
+  seq_follows rests d i j o f g = g (ends_same f)
+  seq_follows open_ended d i j o f g = tt
+
+  seq_stops : (c d : Course) (i : ℕ) → Follows c i fails → Follows (then_course c d) i fails
+  seq_stops halts d i f = refl
+  seq_stops rests d i f = absurd (no_failure f)
+  seq_stops open_ended d i f = tt
+
+  first_follows : (c d : Course) (i j : ℕ) → Follows c i (ends j) → Follows (else_course c d) i (ends j)
+  first_follows halts d i j f = absurd (no_end f)
+  first_follows rests d i j f = f
+  first_follows open_ended d i j f = tt
+
+  second_follows : (c d : Course) (i : ℕ) (o : Ending) → Follows c i fails → Follows d i o → Follows (else_course c d) i o
+  second_follows halts d i o f g = g
+  second_follows rests d i o f g = absurd (no_failure f)
+  second_follows open_ended d i o f g = tt
+
+  turn_follows : (c : Course) (i j : ℕ) (o : Ending) → i < j → Follows c i (ends j) → Follows (many_course c) i o
+  turn_follows halts i j o lt f = absurd (no_end f)
+  turn_follows rests i j o lt f = let same = ends_same f in absurd (omega (arith, lt, same))
+  turn_follows open_ended i j o lt f = tt
+
+  many_follows : (c : Course) (i : ℕ) → Follows (many_course c) i (ends i)
+  many_follows halts i = refl
+  many_follows rests i = refl
+  many_follows open_ended i = tt
+
+  never_rests : (c : Course) (i : ℕ) → Follows c i fails → Follows (turned_course c) i (ends i)
+  never_rests halts i f = refl
+  never_rests rests i f = absurd (no_failure f)
+  never_rests open_ended i f = tt
+
+  never_halts : (c : Course) (i j : ℕ) → Follows c i (ends j) → Follows (turned_course c) i fails
+  never_halts halts i j f = absurd (no_end f)
+  never_halts rests i j f = refl
+  never_halts open_ended i j f = tt
+
+  guard_follows : (c : Course) (i j : ℕ) (o : Ending) → Follows c i (ends j) → Follows (guarded_course c) i o
+  guard_follows halts i j o f = absurd (no_end f)
+  guard_follows rests i j o f = tt
+  guard_follows open_ended i j o f = tt
+
+  guard_stops : (c : Course) (i : ℕ) → Follows c i fails → Follows (guarded_course c) i fails
+  guard_stops halts i f = refl
+  guard_stops rests i f = tt
+  guard_stops open_ended i f = tt
+
+  -- Before such a byte an expression does what its course says.
+  follows : {e : Expression} {i h : ℕ} {o : Ending} → Runs rules text e i o h → High text i → Follows (course e) i o
+  follows (sees {s} {i}) high = see_follows s i high
+  follows (sees_mark {s = s} {i = i}) high = see_follows s i high
+  follows (seq_ends {a = a} {b = b} {i = i} {j = j} {o = o} p q) high =
+      seq_follows (course a) (course b) i j o (follows p high) (λ same. subst (λ k. Follows (course b) k o) same (follows q (subst (High text) (sym same) high)))
+  follows (seq_fails {a = a} {b = b} {i = i} p) high = seq_stops (course a) (course b) i (follows p high)
+  follows (choice_first {a = a} {b = b} {i = i} {j = j} p) high = first_follows (course a) (course b) i j (follows p high)
+  follows (choice_second {a = a} {b = b} {i = i} {o = o} p q) high = second_follows (course a) (course b) i o (follows p high) (follows q high)
+  follows (many_turn {a = a} {i = i} {j = j} {o = o} p lt q) high = turn_follows (course a) i j o lt (follows p high)
+  follows (many_idle {a = a} {i = i} p) high = many_follows (course a) i
+  follows (many_fails {a = a} {i = i} p) high = many_follows (course a) i
+  follows (never_ends {a = a} {i = i} p) high = never_rests (course a) i (follows p high)
+  follows (never_fails {a = a} {i = i} {j = j} p) high = never_halts (course a) i j (follows p high)
+  follows (guard_judges {a = a} {g = g} {i = i} {j = j} p) high = guard_follows (course a) i j (judged text g i j) (follows p high)
+  follows (guard_fails {a = a} {i = i} p) high = guard_stops (course a) i (follows p high)
+  follows (calls {r = r} {i = i} {o = o} p) high = said (get_or courses r open_ended) (course (rule_of rules r)) i o (says_row courses rules all_right r) (follows p high)
+  follows (skips {r = r} {i = i} {o = o} p) high = said (get_or courses r open_ended) (course (rule_of rules r)) i o (says_row courses rules all_right r) (follows p high)
+
+  rested : (e : Expression) {i h : ℕ} {o : Ending} → Runs rules text e i o h → High text i → is_rest (course e) ≡ true → o ≡ ends i
+  rested e {i} {h} {o} p high is = go (course e) (follows p high) is
+    where
+      go : (c : Course) → Follows c i o → is_rest c ≡ true → o ≡ ends i
+      go halts f is = absurd cc
+      go rests f is = f
+      go open_ended f is = absurd cc
 
   abbrev NotFails : Ending → Type 0
   NotFails (ends j) = Unit {0}
@@ -188,12 +367,12 @@ module _ (rules : List Expression) (text : List ℕ) (t : List Bool) (ranks : Li
   passed : {e : Expression} {i h : ℕ} {o : Ending} → Runs rules text e i o h → High text i → passes e ≡ true → NotFails o
   passed (sees {s} {i}) high e = any_stands s i high e
   passed (seq_ends {a = a} {b = b} {i = i} {j = j} {o = o} p q) high e =
-      let both = and_both (rests a) (passes b) e in
-      let here = rested p high both.0 in
+      let both = and_both (is_rest (course a)) (passes b) e in
+      let here = rested a p high both.0 in
       let same : j ≡ i = cc in
       passed q (subst (High text) (sym same) high) both.1
   passed (seq_fails {a = a} {b = b} p) high e =
-      let here = rested p high (and_both (rests a) (passes b) e).0 in
+      let here = rested a p high (and_both (is_rest (course a)) (passes b) e).0 in
       absurd cc
   passed (choice_first p) high e = tt
   passed (choice_second {a = a} {b = b} p q) high e = elim (or_either (passes a) (passes b) e) [ inl x ↦ absurd (passed p high x) | inr y ↦ passed q high y ]
@@ -221,6 +400,7 @@ module _ (rules : List Expression) (text : List ℕ) (t : List Bool) (ranks : Li
   -- What begins between two characters ends between two.
   between : {e : Expression} {i h : ℕ} {o : Ending} → Runs rules text e i o h → IsCharBoundary text i → clean t e ≡ true → Between text o
   between (sees {s} {i}) b m = sight_between text utf8 s i b m
+  between (sees_mark {s = s} {i = i}) b m = sight_between text utf8 s i b m
   between (seq_ends {a = a} {b = c} p q) b m = let both = and_both (clean t a) (clean t c) m in between q (between p b both.0) both.1
   between (seq_fails p) b m = tt
   between (choice_first {a = a} {b = c} p) b m = between p b (and_both (clean t a) (clean t c) m).0

@@ -1,3 +1,4 @@
+pub mod MarkNumbers
 pub mod Theory
 pub mod Ranks
 pub mod Total
@@ -10,3 +11,6 @@ pub mod Modules
 pub mod Places
 pub mod Characters
 pub mod Right
+pub mod Children
+pub mod Asked
+pub mod AskedFirst

@@ -6,12 +6,13 @@ use Rattle.std.proofs.lemmas.Slice.Eq.{starts_is}
 use Rattle.std.proofs.lemmas.Bool.Decides.{Decides-eqb, Decides-ltb, nat_tests}
 use Rattle.std.proofs.lemmas.Bool.{cases_lt}
 use Rattle.std.specs.Ordering.{ord_max, nat_cmp}
-use Rattle.asn_rules.specs.Expression.{Expression, see, seq, choice, many, never, guarded, rule, skip, Sight, bytes, word, one_of, rule_of}
+use Rattle.asn_rules.specs.Expression.{Expression, see, marked, seq, choice, many, never, guarded, rule, skip, Sight, bytes, word, one_of, rule_of}
 use Rattle.asn_rules.specs.Lexical.{stands, width, word_ends}
 use Rattle.asn_rules.specs.Guards.{allows}
-use Rattle.asn_rules.specs.Runs.{Ending, ends, fails, seen, judged, Runs, sees, seq_ends, seq_fails, choice_first, choice_second, many_turn, many_idle, many_fails, never_ends, never_fails, guard_judges, guard_fails, calls, skips, Answer, Answers, Exceeds}
-use Rattle.asn_rules.specs.Answer.{at_height, raised, raise, one_more, higher, then_from, or_else, turned, judge, turn, turns, expr_answer, call_answer, answer, IsWithin, height_of}
+use Rattle.asn_rules.specs.Runs.{Ending, ends, fails, seen, judged, Runs, sees, sees_mark, seq_ends, seq_fails, choice_first, choice_second, many_turn, many_idle, many_fails, never_ends, never_fails, guard_judges, guard_fails, calls, skips, Answer, Answers, Exceeds}
+use Rattle.asn_rules.specs.Answer.{at_height, raised, raise, one_more, higher, then_from, or_else, turned, judge, turn, turns, expr_answer, call_answer, answer, IsWithin, IsWithinOutcome, height_of}
 use Rattle.asn_rules.specs.declared.expression.Guard.{Guard}
+use Rattle.asn_rules.specs.declared.marks.Mark.{Mark}
 use Rattle.asn_rules.specs.declared.run.Outcome.{Outcome}
 use Rattle.asn_rules.specs.declared.run.Outcome.TheVariants.{End, Fail}
 use Rattle.asn_rules.specs.declared.run.MatchFault.{MatchFault}
@@ -61,6 +62,7 @@ module _ (rules : List Expression) (text : List ℕ) where
 
   pub runs_lies : {e : Expression} {i h : ℕ} {o : Ending} → Runs rules text e i o h → i ≤ length text → Lies (length text) i o
   runs_lies (sees {s} {i}) le = seen_lies s i le
+  runs_lies (sees_mark {s = s} {i = i}) le = seen_lies s i le
   runs_lies (seq_ends {o = o} p q) le = let a = runs_lies p le in lies_on o a.0 (runs_lies q a.1)
   runs_lies (seq_fails p) le = tt
   runs_lies (choice_first p) le = runs_lies p le
@@ -88,6 +90,10 @@ module _ (rules : List Expression) (text : List ℕ) where
   see_sound : (s : Sight) (i : ℕ) (o : Ending) → seen text s i ≡ o → Sound (see s) i (Ok (at_height o 0))
   see_sound s i (ends j) e = subst (λ o. Runs rules text (see s) i o 0) e sees
   see_sound s i fails e = subst (λ o. Runs rules text (see s) i o 0) e sees
+
+  mark_sound : (m : Mark) (s : Sight) (i : ℕ) (o : Ending) → seen text s i ≡ o → Sound (marked m s) i (Ok (at_height o 0))
+  mark_sound m s i (ends j) e = subst (λ o. Runs rules text (marked m s) i o 0) e sees_mark
+  mark_sound m s i fails e = subst (λ o. Runs rules text (marked m s) i o 0) e sees_mark
 
   seq_sound : (a b : Expression) (i : ℕ) (x : Answer) (next : ℕ → Answer) → i ≤ length text → Sound a i x → AllSound b next → Sound (seq a b) i (then_from x next)
   seq_sound a b i (Ok (End j h)) next le p f = go (next j) (f j (runs_lies p le).1)
@@ -150,6 +156,7 @@ module _ (rules : List Expression) (text : List ℕ) where
 
   expr_sound : (call : ℕ → ℕ → Answer) → ((r : ℕ) → CallSound r (call r)) → (e : Expression) → AllSound e (expr_answer call text e)
   expr_sound call f (see s) i le = see_sound s i (seen text s i) refl
+  expr_sound call f (marked m s) i le = mark_sound m s i (seen text s i) refl
   expr_sound call f (seq a b) i le = seq_sound a b i (expr_answer call text a i) (expr_answer call text b) le (expr_sound call f a i le) (expr_sound call f b)
   expr_sound call f (choice a b) i le = choice_sound a b i (expr_answer call text a i) (expr_answer call text b i) (expr_sound call f a i le) (expr_sound call f b i le)
   expr_sound call f (many a) i le = turns_sound a (expr_answer call text a) (expr_sound call f a) (suc (length text - i)) i le
@@ -211,6 +218,7 @@ module _ (rules : List Expression) (text : List ℕ) where
   -- What is so is answered, where the depth suffices.
   pub complete : {e : Expression} {i h : ℕ} {o : Ending} → Runs rules text e i o h → i ≤ length text → (d : ℕ) → h ≤ d → answer rules text d e i ≡ Ok (at_height o h)
   complete (sees {s} {i}) le d hd = refl
+  complete (sees_mark {s = s} {i = i}) le d hd = refl
   complete (seq_ends {b = b} {j = j} {h = h} {k = k} {o = o} p q) le d hd =
       ap (λ x. then_from x (answer rules text d b)) (complete p le d (omega arith))
       ∙ ap (raise h) (complete q (runs_lies p le).1 d (omega arith))
@@ -322,6 +330,7 @@ module _ (rules : List Expression) (text : List ℕ) where
 
   low_expr : (d : ℕ) (call : ℕ → ℕ → Answer) → ((r j : ℕ) → Low d (call r j)) → (e : Expression) (i : ℕ) → Low d (expr_answer call text e i)
   low_expr d call f (see s) i = low_at d 0 (seen text s i) (omega arith)
+  low_expr d call f (marked m s) i = low_at d 0 (seen text s i) (omega arith)
   low_expr d call f (seq a b) i = low_then d (expr_answer call text a i) (expr_answer call text b) (low_expr d call f a i) (low_expr d call f b)
   low_expr d call f (choice a b) i = low_else d (expr_answer call text a i) (expr_answer call text b i) (low_expr d call f a i) (low_expr d call f b i)
   low_expr d call f (many a) i = low_turns d (expr_answer call text a) (low_expr d call f a) (suc (length text - i)) i
@@ -351,6 +360,14 @@ module _ (rules : List Expression) (text : List ℕ) where
   pub deeper : (d : ℕ) (e : Expression) (i : ℕ) (x : Answer) (f : MatchFault) → i ≤ length text → x ≡ answer rules text d e i → x ≡ Err f → Exceeds rules text e i d
   deeper d e i x TooDeep le eq is = λ o h p. too_deep d e i o h TooDeep le (sym eq ∙ is) p
   deeper d e i x OutOfMemory le eq is = absurd (subst (Low d) (sym eq ∙ is) (low_expr d (call_answer rules text d) (low_call d) e i))
+
+-- what is seen ends within the text
+pub seen_within : (text : List ℕ) (s : Sight) (i d : ℕ) (o : Outcome) → i ≤ length text → o ≡ at_height (seen text s i) 0 → IsWithinOutcome (length text) d i o
+seen_within text s i d o le e = subst (IsWithinOutcome (length text) d i) (sym e) (go (seen text s i) (seen_lies [] text s i le))
+  where
+    go : (o : Ending) → Lies (length text) i o → IsWithinOutcome (length text) d i (at_height o 0)
+    go (ends j) l = (l.0, l.1, omega arith)
+    go fails l = omega arith
 
 pub raise_raise : (a b : ℕ) (x : Answer) → raise a (raise b x) ≡ raise (max a b) x
 raise_raise a b (Ok (End j h)) = ap (λ k. Ok (End j k)) (omega arith)

@@ -3,16 +3,17 @@ use Rattle.std.proofs.Common.{◌≡◌, ℕ, zero, suc, ◌+◌, ◌-◌, ◌<�
 use Rattle.std.specs.Prelude.{nat_lt, ◌&&◌, ◌||◌, not, if◌then◌else◌, slice_range}
 use Rattle.std.proofs.lemmas.Bool.{cases_lt}
 use Rattle.std.proofs.lemmas.Bool.Decides.{Decides-ltb}
-use Rattle.asn_rules.specs.Expression.{Expression, see, seq, choice, many, never, guarded, rule, skip, Sight, rule_of}
+use Rattle.asn_rules.specs.Expression.{Expression, see, marked, seq, choice, many, never, guarded, rule, skip, Sight, rule_of}
 use Rattle.asn_rules.specs.Lexical.{stands, width}
 use Rattle.asn_rules.specs.Guards.{allows}
-use Rattle.asn_rules.specs.Runs.{Ending, ends, fails, seen, judged, Runs, sees, seq_ends, seq_fails, choice_first, choice_second, many_turn, many_idle, many_fails, never_ends, never_fails, guard_judges, guard_fails, calls, skips, ExactlyOne}
+use Rattle.asn_rules.specs.Runs.{Ending, ends, fails, seen, judged, Runs, sees, sees_mark, seq_ends, seq_fails, choice_first, choice_second, many_turn, many_idle, many_fails, never_ends, never_fails, guard_judges, guard_fails, calls, skips, ExactlyOne}
 use Rattle.asn_rules.specs.declared.expression.Guard.{Guard}
 use Rattle.asn_rules.proofs.Theory.{Lies, runs_lies, one_outcome}
 
 -- each end of the expression takes a byte, where each end of the rules in the table does
 abbrev pub takes_byte : List Bool → Expression → Bool
 takes_byte t (see s) = nat_lt 0 (width s)
+takes_byte t (marked m s) = nat_lt 0 (width s)
 takes_byte t (seq a b) = takes_byte t a || takes_byte t b
 takes_byte t (choice a b) = takes_byte t a && takes_byte t b
 takes_byte t (many a) = false
@@ -24,6 +25,7 @@ takes_byte t (skip r) = get_or t r false
 -- each rule that the expression calls before it has taken a byte ranks below k
 abbrev ranks_below : List Bool → List ℕ → ℕ → Expression → Bool
 ranks_below t ranks k (see s) = true
+ranks_below t ranks k (marked m s) = true
 ranks_below t ranks k (seq a b) = ranks_below t ranks k a && (takes_byte t a || ranks_below t ranks k b)
 ranks_below t ranks k (choice a b) = ranks_below t ranks k a && ranks_below t ranks k b
 ranks_below t ranks k (many a) = ranks_below t ranks k a
@@ -99,6 +101,7 @@ module _ (rules : List Expression) (text : List ℕ) (t : List Bool) (ranks : Li
   -- An expression whose ends each take a byte takes one.
   pub moves : {e : Expression} {i k : ℕ} {o : Ending} → Runs rules text e i o k → i ≤ length text → takes_byte t e ≡ true → Moves i o
   moves (sees {s} {i}) le m = see_moves s i m
+  moves (sees_mark {s = s} {i = i}) le m = see_moves s i m
   moves (seq_ends {a = a} {b = b} {i = i} {j = j} {o = o} p q) le m =
       let l = runs_lies rules text p le in
       elim (or_either (takes_byte t a) (takes_byte t b) m) [
@@ -128,6 +131,7 @@ module _ (rules : List Expression) (text : List ℕ) (t : List Bool) (ranks : Li
   -- P holds of each rule that the expression calls before it has taken a byte.
   abbrev Ready : (ℕ → Type 0) → Expression → Type 0
   Ready P (see s) = Unit {0}
+  Ready P (marked m s) = Unit {0}
   Ready P (seq a b) = Ready P a × ((takes_byte t a ≡ true) ⊎ Ready P b)
   Ready P (choice a b) = Ready P a × Ready P b
   Ready P (many a) = Ready P a
@@ -138,6 +142,7 @@ module _ (rules : List Expression) (text : List ℕ) (t : List Bool) (ranks : Li
 
   ready : (P : ℕ → Type 0) (k : ℕ) → ((s : ℕ) → get_or ranks s 0 < k → P s) → (e : Expression) → ranks_below t ranks k e ≡ true → Ready P e
   ready P k f (see s) m = tt
+  ready P k f (marked w s) m = tt
   ready P k f (seq a b) m =
       let both = and_both (ranks_below t ranks k a) (takes_byte t a || ranks_below t ranks k b) m in
       (ready P k f a both.0, elim (or_either (takes_byte t a) (ranks_below t ranks k b) both.1) [ inl x ↦ inl x | inr y ↦ inr (ready P k f b y) ])
@@ -152,6 +157,7 @@ module _ (rules : List Expression) (text : List ℕ) (t : List Bool) (ranks : Li
 
   all_ready : (P : ℕ → Type 0) → ((r : ℕ) → P r) → (e : Expression) → Ready P e
   all_ready P f (see s) = tt
+  all_ready P f (marked m s) = tt
   all_ready P f (seq a b) = (all_ready P f a, inr (all_ready P f b))
   all_ready P f (choice a b) = (all_ready P f a, all_ready P f b)
   all_ready P f (many a) = all_ready P f a
@@ -200,6 +206,7 @@ module _ (rules : List Expression) (text : List ℕ) (t : List Bool) (ranks : Li
 
   comes : (i : ℕ) → i ≤ length text → Later i → (e : Expression) → Ready (λ r. Comes (rule_of rules r) i) e → Comes e i
   comes i le later (see s) ok = (seen text s i, 0, sees)
+  comes i le later (marked m s) ok = (seen text s i, 0, sees_mark)
   comes i le later (seq a b) ok = seq_comes a b i le later (comes i le later a ok.0) (elim ok.1 [ inl m ↦ inl m | inr r ↦ inr (comes i le later b r) ])
   comes i le later (choice a b) ok = choice_comes a b i (comes i le later a ok.0) (comes i le later b ok.1)
   comes i le later (many a) ok = many_comes a i le later (comes i le later a ok)

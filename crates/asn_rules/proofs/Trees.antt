@@ -2,21 +2,23 @@
 use Rattle.std.proofs.Common.{◌≡◌, ℕ, zero, suc, ◌+◌, ◌-◌, ◌<◌, ◌≤◌, max, List, [], ◌∷◌, ◌++◌, Bool, true, false, Some, None, Ok, Err, length, refl, sym, ap, ◌∙◌, subst, arith, append_assoc}
 use Rattle.std.specs.Prelude.{nat_lt, if◌then◌else◌, slice_range}
 use Rattle.std.proofs.lemmas.Bool.Decides.{Decides-ltb, nat_tests}
-use Rattle.asn_rules.specs.Expression.{Expression, see, seq, choice, many, never, guarded, rule, skip, Sight, rule_of}
+use Rattle.asn_rules.specs.Expression.{Expression, see, marked, seq, choice, many, never, guarded, rule, skip, Sight, rule_of}
 use Rattle.asn_rules.specs.Guards.{allows}
 use Rattle.asn_rules.specs.Runs.{Ending, ends, fails, seen, judged, Runs, seq_ends, seq_fails, choice_first, choice_second, many_turn, many_idle, many_fails, never_ends, never_fails, guard_judges, guard_fails, calls, skips, Answer}
 use Rattle.asn_rules.specs.Runs as runs
 use Rattle.asn_rules.specs.Answer.{at_height, raise, higher, then_from, or_else, turned, judge, turn, turns, expr_answer, call_answer, answer}
-use Rattle.asn_rules.specs.Derives.{Derives, OneTree, node, sees, joins, takes, turns_to, repeats, idles, stops, misses, passes, stands, leaves_none, Derivation, Stand, ends_before, one_more}
-use Rattle.asn_rules.specs.Grown.{leafless, without_nodes, of_outcome, after, then_grow, else_grow, turn_growth, kept, judge_growth, grow_turn, grow_turns, expr_growth, topped, call_growth, grown, plain}
+use Rattle.asn_rules.specs.Derives.{Derives, OneTree, node, sees, leaves_mark, joins, takes, turns_to, repeats, idles, stops, misses, passes, stands, leaves_none, Derivation, Stand, ends_before, one_more}
+use Rattle.asn_rules.specs.Grown.{leafless, with_leaf, IsWithinGrowth, without_nodes, of_outcome, after, then_grow, else_grow, turn_growth, kept, judge_growth, grow_turn, grow_turns, expr_growth, topped, call_growth, grown, plain}
 use Rattle.asn_rules.specs.declared.expression.Guard.{Guard}
+use Rattle.asn_rules.specs.declared.marks.Mark.{Mark}
+use Rattle.asn_rules.specs.Marks.{mark_number}
 use Rattle.asn_rules.specs.declared.node.Node.{Node}
 use Rattle.asn_rules.specs.declared.node.Node.TheOpen.{Node-F}
 use Rattle.asn_rules.specs.declared.node.Node.TheViews.{out-Node, out-roll-Node}
 use Rattle.asn_rules.specs.declared.run.MatchFault.TheVariants as fault
 use Rattle.asn_rules.specs.declared.derive.Growth.{Growth}
 use Rattle.asn_rules.specs.declared.derive.Growth.TheVariants.{End, Fail, TooDeep}
-use Rattle.asn_rules.proofs.Theory.{runs_lies, complete, too_deep}
+use Rattle.asn_rules.proofs.Theory.{Lies, seen_lies, runs_lies, complete, too_deep}
 
 opened_stand : (b k : ℕ) (n : Node) (ns : List Node) (x : Node-F Node) → out-Node n ≡ x → b ≤ x.start → x.start ≤ x.end → Stand x.start x.end x.children → Stand x.end k ns → Stand b k (n ∷ ns)
 opened_stand b k n ns x e = subst (λ x. b ≤ x.start → x.start ≤ x.end → Stand x.start x.end x.children → Stand x.end k ns → Stand b k (n ∷ ns)) e (λ p q s t. one_more p q s t)
@@ -47,6 +49,10 @@ module _ (rules : List Expression) (text : List ℕ) where
   see_grows : (s : Sight) (i : ℕ) (o : Ending) → seen text s i ≡ o → Grows (see s) i (leafless o 0)
   see_grows s i (ends j) e = (subst (λ o. Runs rules text (see s) i o 0) e runs.sees, sees e)
   see_grows s i fails e = subst (λ o. Runs rules text (see s) i o 0) e runs.sees
+
+  mark_grows : (m : Mark) (s : Sight) (i : ℕ) (o : Ending) → seen text s i ≡ o → Grows (marked m s) i (with_leaf m i o)
+  mark_grows m s i (ends j) e = (subst (λ o. Runs rules text (marked m s) i o 0) e runs.sees_mark, leaves_mark e)
+  mark_grows m s i fails e = subst (λ o. Runs rules text (marked m s) i o 0) e runs.sees_mark
 
   seq_grows : (a b : Expression) (i : ℕ) (x : Growth) (next : ℕ → Growth) → i ≤ length text → Grows a i x → AllGrow b next → Grows (seq a b) i (then_grow x next)
   seq_grows a b i (End j h m) next le p f = go (next j) (f j (runs_lies rules text p.0 le).1)
@@ -114,6 +120,7 @@ module _ (rules : List Expression) (text : List ℕ) where
 
   expr_grows : (call : ℕ → ℕ → Growth) → ((r : ℕ) → CallGrows r (call r)) → (e : Expression) → AllGrow e (expr_growth call text e)
   expr_grows call f (see s) i le = see_grows s i (seen text s i) refl
+  expr_grows call f (marked m s) i le = mark_grows m s i (seen text s i) refl
   expr_grows call f (seq a b) i le = seq_grows a b i (expr_growth call text a i) (expr_growth call text b) le (expr_grows call f a i le) (expr_grows call f b)
   expr_grows call f (choice a b) i le = choice_grows a b i (expr_growth call text a i) (expr_growth call text b i) (expr_grows call f a i le) (expr_grows call f b i le)
   expr_grows call f (many a) i le = turns_grow a (expr_growth call text a) (expr_grows call f a) (suc (length text - i)) i le
@@ -138,6 +145,10 @@ module _ (rules : List Expression) (text : List ℕ) where
   plain_leafless : (o : Ending) (h : ℕ) → plain (leafless o h) ≡ Ok (at_height o h)
   plain_leafless (ends j) h = refl
   plain_leafless fails h = refl
+
+  plain_leaf : (m : Mark) (i : ℕ) (o : Ending) → plain (with_leaf m i o) ≡ Ok (at_height o 0)
+  plain_leaf m i (ends j) = refl
+  plain_leaf m i fails = refl
 
   plain_after : (h : ℕ) (m : List Node) (x : Growth) → plain (after h m x) ≡ raise h (plain x)
   plain_after h m (End j k n) = refl
@@ -188,6 +199,7 @@ module _ (rules : List Expression) (text : List ℕ) where
 
   plain_expr : (call : ℕ → ℕ → Growth) (call' : ℕ → ℕ → Answer) → ((r j : ℕ) → plain (call r j) ≡ call' r j) → (e : Expression) (i : ℕ) → plain (expr_growth call text e i) ≡ expr_answer call' text e i
   plain_expr call call' f (see s) i = plain_leafless (seen text s i) 0
+  plain_expr call call' f (marked m s) i = plain_leaf m i (seen text s i)
   plain_expr call call' f (seq a b) i =
       plain_then (expr_growth call text a i) (expr_growth call text b) (expr_answer call' text b) (plain_expr call call' f b)
       ∙ ap (λ x. then_from x (expr_answer call' text b)) (plain_expr call call' f a i)
@@ -310,6 +322,10 @@ module _ (rules : List Expression) (text : List ℕ) where
       let l = subst (λ o. Runs rules text (see s) i o 0) eq runs.sees in
       let w = runs_lies rules text l le in
       (0, (λ d hd. ap (λ o. leafless o 0) eq), w.0, w.1)
+  grown_from (leaves_mark {m} {s} {i} {j} eq) le =
+      let l = subst (λ o. Runs rules text (marked m s) i o 0) eq runs.sees_mark in
+      let w = runs_lies rules text l le in
+      (0, (λ d hd. ap (λ o. with_leaf m i o) eq), w.0, w.1)
   grown_from (joins {b = b} {m = m} p q) le =
       let x = grown_from p le in
       let y = grown_from q x.3 in
@@ -367,11 +383,12 @@ module _ (rules : List Expression) (text : List ℕ) where
   one_tree_each e i le = record { some = λ j h p. some_tree e i j h le p; ended = λ j n p. ended_tree e i j n le p; only = λ j k m n p q. one_tree e i j k m n le p q }
 
   -- The nodes stand in order, each one's children within it.
-  within : {e : Expression} {i j : ℕ} {m : List Node} → Derives rules text e i j m → i ≤ length text → (i ≤ j) × (j ≤ length text)
+  pub within : {e : Expression} {i j : ℕ} {m : List Node} → Derives rules text e i j m → i ≤ length text → (i ≤ j) × (j ≤ length text)
   within p le = let x = grown_from p le in (x.2, x.3)
 
   pub in_order : {e : Expression} {i j : ℕ} {m : List Node} → Derives rules text e i j m → i ≤ length text → Stand i j m
   in_order (sees eq) le = ends_before (within (sees eq) le).0
+  in_order (leaves_mark {m} {s} {i} {j} eq) le = let w = (within (leaves_mark {m = m} eq) le).0 in node_stands (mark_number m) i j [] w (ends_before w)
   in_order (joins p q) le = stand_append (in_order p le) (in_order q (within p le).1)
   in_order (takes p) le = in_order p le
   in_order (turns_to p q) le = in_order q le
@@ -403,6 +420,14 @@ module _ (rules : List Expression) (text : List ℕ) where
   pub derivation_none : (d r i : ℕ) → i ≤ length text → d ≡ 0 → Derivation rules text r i d (Err fault.TooDeep)
   derivation_none zero r i le z = λ o h p. too_deep_to_grow zero (rule r) i o h le refl p
   derivation_none (suc d) r i le z = absurd (omega arith)
+
+-- what is seen ends within the text, with its leaf
+pub leaf_within : (text : List ℕ) (m : Mark) (s : Sight) (i d : ℕ) (g : Growth) → i ≤ length text → g ≡ with_leaf m i (seen text s i) → IsWithinGrowth (length text) d i g
+leaf_within text m s i d g le e = subst (IsWithinGrowth (length text) d i) (sym e) (go (seen text s i) (seen_lies [] text s i le))
+  where
+    go : (o : Ending) → Lies (length text) i o → IsWithinGrowth (length text) d i (with_leaf m i o)
+    go (ends j) l = (l.0, l.1, omega arith)
+    go fails l = omega arith
 
 pub after_after : (a b : ℕ) (m n : List Node) (x : Growth) → after a m (after b n x) ≡ after (max a b) (m ++ n) x
 after_after a b m n (End j h k) = ap (λ z. End j z (m ++ (n ++ k))) (omega arith) ∙ ap (End j (max (max a b) h)) (sym (append_assoc m n k))

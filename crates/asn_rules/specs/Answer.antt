@@ -1,6 +1,6 @@
 -- What a try at a limited depth answers. Only private contracts cite these.
 use Rattle.std.specs.Prelude.{ℕ, zero, suc, ◌+◌, ◌-◌, ◌≤◌, max, List, Ok, Err, length, nat_lt, if◌then◌else◌}
-use Rattle.asn_rules.specs.Expression.{Expression, see, seq, choice, many, never, guarded, rule, skip, rule_of}
+use Rattle.asn_rules.specs.Expression.{Expression, see, marked, seq, choice, many, never, guarded, rule, skip, rule_of}
 use Rattle.asn_rules.specs.Runs.{Ending, ends, fails, seen, judged, Answer}
 use Rattle.asn_rules.specs.declared.run.Outcome.{Outcome}
 use Rattle.asn_rules.specs.declared.run.Outcome.TheVariants.{End, Fail}
@@ -58,6 +58,7 @@ turns step (suc n) i = turn i (step i) (turns step n)
 
 abbrev pub expr_answer : (ℕ → ℕ → Answer) → List ℕ → Expression → ℕ → Answer
 expr_answer call text (see s) i = Ok (at_height (seen text s i) 0)
+expr_answer call text (marked m s) i = Ok (at_height (seen text s i) 0)
 expr_answer call text (seq a b) i = then_from (expr_answer call text a i) (expr_answer call text b)
 expr_answer call text (choice a b) i = or_else (expr_answer call text a i) (expr_answer call text b i)
 expr_answer call text (many a) i = turns (expr_answer call text a) (suc (length text - i)) i

@@ -1,6 +1,8 @@
 -- How an expression that ends came to its end: the nodes of the rules that it called on its way.
 use Rattle.std.specs.Prelude.{◌≡◌, ℕ, ◌<◌, ◌≤◌, List, [], ◌∷◌, ◌++◌, Option, Some, None, Result, Ok, Err}
-use Rattle.asn_rules.specs.Expression.{Expression, see, seq, choice, many, never, guarded, rule, skip, Sight, rule_of}
+use Rattle.asn_rules.specs.declared.marks.Mark.{Mark}
+use Rattle.asn_rules.specs.Marks.{mark_number}
+use Rattle.asn_rules.specs.Expression.{Expression, see, marked, seq, choice, many, never, guarded, rule, skip, Sight, rule_of}
 use Rattle.asn_rules.specs.Runs.{Ending, ends, fails, seen, judged, Runs}
 use Rattle.asn_rules.specs.declared.expression.Guard.{Guard}
 use Rattle.asn_rules.specs.declared.run.MatchFault.{MatchFault}
@@ -14,6 +16,7 @@ node r i j children = roll-Node (record { rule = r; start = i; end = j; children
 -- The expression, tried at the one offset, ends at the other by way of the nodes. What was tried and failed leaves none.
 pub data Derives (rules : List Expression) (text : List ℕ) : Expression → ℕ → ℕ → List Node → Type 0 where
   sees : {s : Sight} {i j : ℕ} → seen text s i ≡ ends j → Derives rules text (see s) i j []
+  leaves_mark : {m : Mark} {s : Sight} {i j : ℕ} → seen text s i ≡ ends j → Derives rules text (marked m s) i j (node (mark_number m) i j [] ∷ [])
   joins : {a b : Expression} {i j k : ℕ} {m n : List Node} → Derives rules text a i j m → Derives rules text b j k n → Derives rules text (seq a b) i k (m ++ n)
   takes : {a b : Expression} {i j : ℕ} {n : List Node} → Derives rules text a i j n → Derives rules text (choice a b) i j n
   turns_to : {a b : Expression} {i j h : ℕ} {n : List Node} → Runs rules text a i fails h → Derives rules text b i j n → Derives rules text (choice a b) i j n

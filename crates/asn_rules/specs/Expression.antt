@@ -2,10 +2,11 @@
 use Rattle.std.specs.Prelude.{ℕ, ◌+◌, List, [], get_or}
 use Rattle.asn_rules.specs.declared.expression.ByteClass.{ByteClass}
 use Rattle.asn_rules.specs.declared.expression.Guard.{Guard}
+use Rattle.asn_rules.specs.declared.marks.Mark.{Mark}
 use Rattle.asn_rules.specs.declared.expression.Sight as code
 use Rattle.asn_rules.specs.declared.expression.Sight.TheVariants.{Bytes, Word, OneOf}
 use Rattle.asn_rules.specs.declared.expression.Expression as coded
-use Rattle.asn_rules.specs.declared.expression.Expression.TheVariants.{See, Call, Skip, Sequence', Choice', Many', Not', Guarded'}
+use Rattle.asn_rules.specs.declared.expression.Expression.TheVariants.{See, Marked, Call, Skip, Sequence', Choice', Many', Not', Guarded'}
 
 -- what can stand at an offset: these bytes, these as a whole word, one byte of a class
 pub data Sight : Type 0 where
@@ -13,9 +14,10 @@ pub data Sight : Type 0 where
   word : List ℕ → Sight
   one_of : ByteClass → Sight
 
--- `skip` is a call of a rule that leaves no node
+-- `marked` sees as `see` does, and leaves a leaf with the number of its mark; `skip` is a call of a rule that leaves no node
 pub data Expression : Type 0 where
   see : Sight → Expression
+  marked : Mark → Sight → Expression
   seq : Expression → Expression → Expression
   choice : Expression → Expression → Expression
   many : Expression → Expression
@@ -32,6 +34,7 @@ sight (OneOf c) = one_of c
 
 abbrev pub expression : coded.Expression → Expression
 expression (See s) = see (sight s)
+expression (Marked m s) = marked m (sight s)
 expression (Call r) = rule r
 expression (Skip r) = skip r
 expression (Sequence' p a q b) = seq (expression a) (expression b)
@@ -47,6 +50,7 @@ rule_of rules r = get_or rules r (never (see (bytes [])))
 -- how many forms it is made of
 abbrev pub weight : Expression → ℕ
 weight (see s) = 1
+weight (marked m s) = 1
 weight (seq a b) = 1 + weight a + weight b
 weight (choice a b) = 1 + weight a + weight b
 weight (many a) = 2 + weight a

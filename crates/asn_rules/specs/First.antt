@@ -1,7 +1,8 @@
 -- The table of the first part of ASN.1: at each number its rule. "x" and 'X' skip blanks and comments; 'X' is a whole word.
 use Rattle.std.specs.Prelude.{List, [], ◌∷◌, codes}
 use Rattle.asn_rules.specs.Expression.{Expression, many, never, guarded, rule}
-use Rattle.asn_rules.specs.Forms.{◌·◌, ◌¦◌, sp, whole, symbol, keyword, maybe, some, no_rule, any}
+use Rattle.asn_rules.specs.declared.marks.Mark.TheVariants as mark
+use Rattle.asn_rules.specs.Forms.{any, keyword, maybe, no_rule, some, sp, symbol, whole_as, words, ◌¦◌, ◌·◌}
 use Rattle.asn_rules.specs.LexicalRules.{lexical_rules_before}
 use Rattle.asn_rules.specs.declared.expression.Guard.TheVariants.{IsOrdered}
 
@@ -54,7 +55,7 @@ further =
     no_rule ∷ no_rule ∷ no_rule ∷ no_rule ∷ no_rule ∷ no_rule ∷ no_rule ∷ no_rule ∷ no_rule ∷ no_rule ∷
     no_rule ∷ no_rule ∷
     -- 166 tag_default = words(AUTOMATIC, IMPLICIT, EXPLICIT) 'TAGS'
-    ((sp · (whole (codes "AUTOMATIC") ¦ whole (codes "IMPLICIT") ¦ whole (codes "EXPLICIT"))) · keyword (codes "TAGS")) ∷
+    (words (whole_as mark.Automatic (codes "AUTOMATIC") ¦ whole_as mark.Implicit (codes "IMPLICIT") ¦ whole_as mark.Explicit (codes "EXPLICIT")) · keyword (codes "TAGS")) ∷
     -- 167 environments = tag_default?
     (maybe (rule 166)) ∷
     no_rule ∷ no_rule ∷ no_rule ∷ no_rule ∷ no_rule ∷ no_rule ∷ no_rule ∷ no_rule ∷

@@ -1,7 +1,8 @@
 -- The forms of a row. "x" and 'X' skip blanks and comments; 'X' is a whole word.
-use Rattle.std.specs.Prelude.{ℕ, List, []}
-use Rattle.asn_rules.specs.Expression.{Expression, see, seq, choice, many, never, rule, skip, bytes, word, one_of}
-use Rattle.asn_rules.specs.declared.expression.ByteClass.TheVariants.{Blank, Digit, Letter, Lower, Alnum, Cap, LineFeed, Any}
+use Rattle.std.specs.Prelude.{ℕ, List, [], codes}
+use Rattle.asn_rules.specs.declared.marks.Mark.{Mark}
+use Rattle.asn_rules.specs.Expression.{Expression, see, marked, seq, choice, many, never, rule, skip, bytes, word, one_of}
+use Rattle.asn_rules.specs.declared.expression.ByteClass.TheVariants.{Blank, Digit, Letter, Lower, Upper, Alnum, Cap, HexLetter, TimeMark, LabelMark, LineFeed, Any}
 
 infixr 7 ◌·◌
 abbrev pub ◌·◌ : Expression → Expression → Expression
@@ -30,11 +31,33 @@ symbol x = gap · literal x
 abbrev pub keyword : List ℕ → Expression
 keyword x = gap · whole x
 
+-- the same, which leave a leaf
+abbrev pub whole_as : Mark → List ℕ → Expression
+whole_as m x = marked m (word x)
+
+abbrev pub symbol_as : Mark → List ℕ → Expression
+symbol_as m x = gap · marked m (bytes x)
+
+abbrev pub keyword_as : Mark → List ℕ → Expression
+keyword_as m x = gap · marked m (word x)
+
 abbrev pub maybe : Expression → Expression
 maybe a = a ¦ literal []
 
 abbrev pub some : Expression → Expression
 some a = a · many a
+
+-- in parentheses, or without
+abbrev pub parens : Expression → Expression
+parens a = (symbol (codes "(") · a · symbol (codes ")")) ¦ a
+
+-- one of these words, behind blanks and comments
+abbrev pub words : Expression → Expression
+words a = gap · a
+
+-- it stands here, and nothing is taken
+abbrev pub ahead : Expression → Expression
+ahead a = never (never a)
 
 abbrev pub no_rule : Expression
 no_rule = never (literal [])
@@ -56,6 +79,18 @@ blank = see (one_of Blank)
 
 abbrev pub lower : Expression
 lower = see (one_of Lower)
+
+abbrev pub upper : Expression
+upper = see (one_of Upper)
+
+abbrev pub hex_letter : Expression
+hex_letter = see (one_of HexLetter)
+
+abbrev pub time_mark : Expression
+time_mark = see (one_of TimeMark)
+
+abbrev pub label_mark : Expression
+label_mark = see (one_of LabelMark)
 
 abbrev pub line_feed : Expression
 line_feed = see (one_of LineFeed)

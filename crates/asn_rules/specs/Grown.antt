@@ -1,6 +1,8 @@
 -- What a try at a limited depth grows. Only private contracts cite these.
 use Rattle.std.specs.Prelude.{ℕ, zero, suc, ◌+◌, ◌-◌, ◌≤◌, max, List, [], ◌∷◌, ◌++◌, Ok, Err, length, nat_lt, if◌then◌else◌}
-use Rattle.asn_rules.specs.Expression.{Expression, see, seq, choice, many, never, guarded, rule, skip, rule_of}
+use Rattle.asn_rules.specs.declared.marks.Mark.{Mark}
+use Rattle.asn_rules.specs.Marks.{mark_number}
+use Rattle.asn_rules.specs.Expression.{Expression, see, marked, seq, choice, many, never, guarded, rule, skip, rule_of}
 use Rattle.asn_rules.specs.Runs.{Ending, ends, fails, seen, judged, Answer}
 use Rattle.asn_rules.specs.Derives.{node}
 use Rattle.asn_rules.specs.declared.run.Outcome.TheVariants as outcome
@@ -14,6 +16,11 @@ use Rattle.asn_rules.specs.declared.derive.Growth.TheVariants.{End, Fail, TooDee
 abbrev pub leafless : Ending → ℕ → Growth
 leafless (ends j) h = End j h []
 leafless fails h = Fail h
+
+-- with the leaf of a mark
+abbrev pub with_leaf : Mark → ℕ → Ending → Growth
+with_leaf m i (ends j) = End j 0 (node (mark_number m) i j [] ∷ [])
+with_leaf m i fails = Fail 0
 
 abbrev pub without_nodes : Growth → Growth
 without_nodes (End j h m) = End j h []
@@ -61,6 +68,7 @@ grow_turns step (suc n) i = grow_turn i (step i) (grow_turns step n)
 
 abbrev pub expr_growth : (ℕ → ℕ → Growth) → List ℕ → Expression → ℕ → Growth
 expr_growth call text (see s) i = leafless (seen text s i) 0
+expr_growth call text (marked m s) i = with_leaf m i (seen text s i)
 expr_growth call text (seq a b) i = then_grow (expr_growth call text a i) (expr_growth call text b)
 expr_growth call text (choice a b) i = else_grow (expr_growth call text a i) (expr_growth call text b i)
 expr_growth call text (many a) i = grow_turns (expr_growth call text a) (suc (length text - i)) i

@@ -1,12 +1,12 @@
 -- What a guard asks of the bytes that a rule took.
-use Rattle.std.specs.Prelude.{ℕ, zero, suc, ◌+◌, ◌*◌, ◌-◌, ◌^◌, List, [], ◌∷◌, Bool, true, false, ◌&&◌, ◌||◌, not, nat_eq, nat_lt, codes, fold, cond, Option, Some, None, if◌then◌else◌, ℤ, pos, neg_ℤ, int_le, int_lt}
+use Rattle.std.specs.Prelude.{ℕ, zero, suc, ◌+◌, ◌*◌, ◌-◌, ◌^◌, List, [], ◌∷◌, Bool, true, false, ◌&&◌, ◌||◌, not, nat_eq, nat_lt, nat_le, codes, fold, cond, length, Option, Some, None, if◌then◌else◌, ℤ, pos, neg_ℤ, int_le, int_lt, ◌+ℤ◌}
 use Rattle.std.specs.Option.{is_some}
 use Rattle.std.specs.List.{starts_with, list_all, list_any}
 use Rattle.std.specs.Cmp.Lexicographic.{pointwise}
 use Rattle.asn_rules.specs.Lexical.{first_in, is_digit, keywords}
 use Rattle.asn_rules.specs.declared.expression.ByteClass.TheVariants.{Blank, LineFeed}
 use Rattle.asn_rules.specs.declared.expression.Guard.{Guard}
-use Rattle.asn_rules.specs.declared.expression.Guard.TheVariants.{NoKeyword, NamesClass, FitsU64, FitsU128, FitsI128, FitsI32, IsOrdered}
+use Rattle.asn_rules.specs.declared.expression.Guard.TheVariants.{NoKeyword, NamesClass, FitsU64, FitsU128, FitsI128, FitsI32, IsOrdered, FitsU8, IsBase, FitsReal, IsCharacter, IsSetting, IsTime, HasLabels}
 
 -- where one stands in a text: within so many block comments, none being outside; in a line comment; or behind the
 -- first byte of a mark, whose second leads to another such place
@@ -91,22 +91,141 @@ at_most (Some low) (Some high) = int_le low high
 at_most (Some low) None = false
 at_most None high = false
 
--- the bytes before the first '.', and those behind it
-abbrev pub before_dot : List ℕ → List ℕ
-before_dot [] = []
-before_dot (b ∷ bs) = if nat_eq b 46 then [] else b ∷ before_dot bs
+-- the bytes before the first of this byte, and those behind it
+abbrev pub before : ℕ → List ℕ → List ℕ
+before mark [] = []
+before mark (b ∷ bs) = if nat_eq b mark then [] else b ∷ before mark bs
 
-abbrev pub behind_dot : List ℕ → List ℕ
-behind_dot [] = []
-behind_dot (b ∷ bs) = if nat_eq b 46 then bs else behind_dot bs
+abbrev pub behind : ℕ → List ℕ → List ℕ
+behind mark [] = []
+behind mark (b ∷ bs) = if nat_eq b mark then bs else behind mark bs
 
 -- a number, "..", and a number that is no smaller (X.680 51.4)
 abbrev pub is_range : List ℕ → Bool
-is_range bs = at_most (number (before_dot bs)) (number (behind_dot (behind_dot bs))) && is_empty (before_dot (behind_dot bs))
+is_range bs = at_most (number (before 46 bs)) (number (behind 46 (behind 46 bs))) && is_empty (before 46 (behind 46 bs))
 
 -- the two reserved words that name classes (X.681 Annex A and B)
 abbrev pub names_class : List ℕ → Bool
 names_class bs = pointwise nat_eq bs (codes "TYPE-IDENTIFIER") || pointwise nat_eq bs (codes "ABSTRACT-SYNTAX")
+
+-- 'e' or 'E', with which the exponent of a number with a point begins (X.680 12.9)
+abbrev pub is_exponent_mark : ℕ → Bool
+is_exponent_mark b = nat_eq b 101 || nat_eq b 69
+
+-- what stands before the exponent, without the point
+abbrev pub mantissa : List ℕ → List ℕ
+mantissa [] = []
+mantissa (b ∷ bs) = if is_exponent_mark b then [] else if nat_eq b 46 then mantissa bs else b ∷ mantissa bs
+
+abbrev pub behind_exponent_mark : List ℕ → List ℕ
+behind_exponent_mark [] = []
+behind_exponent_mark (b ∷ bs) = if is_exponent_mark b then bs else behind_exponent_mark bs
+
+-- the exponent that is written, or 0
+abbrev pub exponent : List ℕ → Option ℤ
+exponent bs = if is_empty bs then Some (pos 0) else number bs
+
+-- less this count it is from -2^31 to 2^31 - 1
+abbrev pub fits_less : ℕ → Option ℤ → Bool
+fits_less count None = false
+fits_less count (Some z) = int_le (neg_ℤ (pos (2 ^ 31)) +ℤ pos count) z && int_lt z (pos (2 ^ 31) +ℤ pos count)
+
+-- a number with a point: what it is in tens, and the power of ten, which each decimal makes one less (X.680 21.6)
+abbrev pub is_real : List ℕ → Bool
+is_real bs = is_some (number (mantissa bs)) && fits_less (length (mantissa (behind 46 bs))) (exponent (behind_exponent_mark bs))
+
+abbrev pub is_base_of : Option ℕ → Bool
+is_base_of None = false
+is_base_of (Some n) = nat_eq n 2 || nat_eq n 10
+
+-- a code of a character (Unicode 3.9: no surrogate)
+abbrev pub is_scalar : ℕ → Bool
+is_scalar n = nat_lt n 55296 || (nat_le 57344 n && nat_lt n 1114112)
+
+-- the number with a digit to the base 256 behind it
+abbrev pub with_octet : Option ℕ → Option ℕ → Option ℕ
+with_octet None low = None
+with_octet (Some high) None = None
+with_octet (Some high) (Some low) = Some (high * 256 + low)
+
+abbrev pub is_scalar_of : Option ℕ → Bool
+is_scalar_of None = false
+is_scalar_of (Some n) = is_scalar n
+
+abbrev pub octet : ℕ → List ℕ → Option ℕ
+octet mark bs = natural 8 (before mark bs)
+
+-- the number of four octets, behind each but the last a comma, behind it a closing brace
+abbrev pub four_octets : List ℕ → Option ℕ
+four_octets bs =
+    with_octet (with_octet (with_octet (octet 44 bs) (octet 44 (behind 44 bs))) (octet 44 (behind 44 (behind 44 bs)))) (octet 125 (behind 44 (behind 44 (behind 44 bs))))
+
+-- a group, a plane, a row and a cell that tell a character (X.680 41.8)
+abbrev pub is_character : List ℕ → Bool
+is_character bs = is_scalar_of (four_octets (behind 123 bs))
+
+-- the settings that are words (X.680 38.4)
+unfoldable pub setting_words : List (List ℕ)
+setting_words =
+    codes "Basic=Date" ∷
+    codes "Basic=Time" ∷
+    codes "Basic=Date-Time" ∷
+    codes "Basic=Interval" ∷
+    codes "Basic=Rec-Interval" ∷
+    codes "Date=C" ∷
+    codes "Date=Y" ∷
+    codes "Date=YM" ∷
+    codes "Date=YMD" ∷
+    codes "Date=YD" ∷
+    codes "Date=YW" ∷
+    codes "Date=YWD" ∷
+    codes "Year=Basic" ∷
+    codes "Year=Proleptic" ∷
+    codes "Year=Negative" ∷
+    codes "Time=H" ∷
+    codes "Time=HM" ∷
+    codes "Time=HMS" ∷
+    codes "Local-or-UTC=L" ∷
+    codes "Local-or-UTC=Z" ∷
+    codes "Local-or-UTC=LD" ∷
+    codes "Interval-type=SE" ∷
+    codes "Interval-type=D" ∷
+    codes "Interval-type=SD" ∷
+    codes "Interval-type=DE" ∷
+    codes "SE-point=Date" ∷
+    codes "SE-point=Time" ∷
+    codes "SE-point=Date-Time" ∷
+    codes "Recurrence=Unlimited" ∷
+    codes "Midnight=Start" ∷
+    codes "Midnight=End" ∷
+    []
+
+-- the settings that a number follows
+unfoldable pub numbered_settings : List (List ℕ)
+numbered_settings = codes "Year=L" ∷ codes "Time=HF" ∷ codes "Time=HMF" ∷ codes "Time=HMSF" ∷ codes "Recurrence=R" ∷ []
+
+-- what stands behind the word, if the bytes begin with it
+abbrev pub behind_word : List ℕ → List ℕ → Option (List ℕ)
+behind_word [] bs = Some bs
+behind_word (w ∷ ws) [] = None
+behind_word (w ∷ ws) (b ∷ bs) = if nat_eq b w then behind_word ws bs else None
+
+-- digits of a number below 2^64, and nothing else
+abbrev pub is_numeral : Option (List ℕ) → Bool
+is_numeral None = false
+is_numeral (Some bs) = is_some (natural 64 bs)
+
+abbrev pub is_setting : List ℕ → Bool
+is_setting bs = among setting_words bs || list_any (λ w. is_numeral (behind_word w bs)) numbered_settings
+
+-- a digit, and a byte that is none
+abbrev pub is_time : List ℕ → Bool
+is_time bs = list_any is_digit bs && list_any (λ b. not (is_digit b)) bs
+
+-- no '/' follows another, nor stands in front of all where one stands before these bytes
+abbrev pub has_labels : Bool → List ℕ → Bool
+has_labels slash [] = true
+has_labels slash (b ∷ bs) = not (slash && nat_eq b 47) && has_labels (nat_eq b 47) bs
 
 -- whether the guard lets pass what was taken
 abbrev pub allows : Guard → List ℕ → Bool
@@ -117,3 +236,10 @@ allows FitsU128 taken = is_some (natural 128 (bare taken))
 allows FitsI128 taken = is_some (integer 127 (bare taken))
 allows FitsI32 taken = is_some (integer 31 (bare taken))
 allows IsOrdered taken = is_range (bare taken)
+allows FitsU8 taken = is_some (natural 8 (bare taken))
+allows IsBase taken = is_base_of (natural 128 (bare taken))
+allows FitsReal taken = is_real (bare taken)
+allows IsCharacter taken = is_character (bare taken)
+allows IsSetting taken = is_setting (bare taken)
+allows IsTime taken = is_time taken
+allows HasLabels taken = has_labels true taken

@@ -1,9 +1,9 @@
 -- Bytes and words (X.680 11 and 12).
 use Rattle.std.specs.Prelude.{ℕ, List, [], ◌∷◌, Bool, true, false, ◌&&◌, ◌||◌, not, nat_eq, nat_le, length, drop, codes}
-use Rattle.std.specs.List.{starts_with}
+use Rattle.std.specs.List.{starts_with, list_any}
 use Rattle.asn_rules.specs.Expression.{Sight, bytes, word, one_of}
 use Rattle.asn_rules.specs.declared.expression.ByteClass.{ByteClass}
-use Rattle.asn_rules.specs.declared.expression.ByteClass.TheVariants.{Blank, Digit, Letter, Lower, Upper, Alnum, Cap, LineFeed, Any}
+use Rattle.asn_rules.specs.declared.expression.ByteClass.TheVariants.{Blank, Digit, Letter, Lower, Upper, Alnum, Cap, HexLetter, TimeMark, LabelMark, LineFeed, Any}
 
 abbrev pub between : ℕ → ℕ → ℕ → Bool
 between low high b = nat_le low b && nat_le b high
@@ -17,6 +17,9 @@ in_class Upper b = between 65 90 b
 in_class Letter b = between 65 90 b || between 97 122 b
 in_class Alnum b = between 48 57 b || (between 65 90 b || between 97 122 b)
 in_class Cap b = between 65 90 b || between 48 57 b
+in_class HexLetter b = between 65 70 b
+in_class TimeMark b = list_any (nat_eq b) (codes "+-:.,/CDHMRPSTWYZ")
+in_class LabelMark b = list_any (nat_eq b) (codes "-_~./")
 in_class LineFeed b = nat_eq b 10
 in_class Any b = true
 

@@ -1,9 +1,16 @@
+pub mod Marks
 pub mod Expression
 pub mod Lexical
 pub mod Guards
 pub mod Sizes
 pub mod Forms
 pub mod LexicalRules
+pub mod ValueRules
+pub mod TypeRules
+pub mod ConstraintRules
+pub mod ObjectRules
+pub mod HeaderRules
+pub mod DefinitionRules
 pub mod First
 pub mod Whole
 pub mod Grammar
@@ -16,3 +23,4 @@ pub mod Valid
 pub mod Due
 pub mod Attempts
 pub mod RuleNames
+pub mod Children

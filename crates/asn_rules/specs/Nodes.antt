@@ -1,5 +1,5 @@
 -- Functions of a whole node, by a step that sees each child beside what was made of it.
-use Rattle.std.specs.Prelude.{ℕ, List, [], ◌∷◌, map, nat_eq, Option, Some, None, cond}
+use Rattle.std.specs.Prelude.{ℕ, ◌-◌, List, [], ◌∷◌, map, nat_eq, Option, Some, None, cond}
 use Rattle.std.specs.List.{find}
 use Rattle.asn_rules.specs.declared.node.Node.{Node}
 use Rattle.asn_rules.specs.declared.node.Node.TheOpen.{Node-F}
@@ -26,9 +26,28 @@ child_among ns r = find (λ n. nat_eq (out-Node n).rule r) ns
 abbrev pub child_of : Node → ℕ → Option Node
 child_of n r = child_among (out-Node n).children r
 
+-- the one of this rule that has so many of this rule before it
+abbrev pub nth_among : List Node → ℕ → ℕ → Option Node
+nth_among [] r k = None
+nth_among (n ∷ ns) r k = cond (nat_eq (out-Node n).rule r) (cond (nat_eq k 0) (Some n) (nth_among ns r (k - 1))) (nth_among ns r k)
+
+abbrev pub nth_child_of : Node → ℕ → ℕ → Option Node
+nth_child_of n r k = nth_among (out-Node n).children r k
+
+abbrev pub first_among : List Node → Option Node
+first_among [] = None
+first_among (n ∷ ns) = Some n
+
+abbrev pub first_child_of : Node → Option Node
+first_child_of n = first_among (out-Node n).children
+
 abbrev pub at_child : {B : Type 0} → Option Node → B → (Node → B) → B
 at_child None z f = z
 at_child (Some n) z f = f n
+
+-- what is made of a child that must be there: nothing where it is missing
+abbrev pub the : {B : Type 0} → Option Node → (Node → Option B) → Option B
+the o f = at_child o None f
 
 -- what was made of the first child of this rule
 abbrev pub made : {A B : Type 0} → List (Node × A) → ℕ → B → (A → B) → B

@@ -1,6 +1,7 @@
 -- What a try of an expression comes to, over the rules of a grammar and a text.
 use Rattle.std.specs.Prelude.{◌≡◌, ℕ, ◌+◌, ◌<◌, ◌≤◌, max, List, Result, Ok, Err, if◌then◌else◌, slice_range, drop}
-use Rattle.asn_rules.specs.Expression.{Expression, see, seq, choice, many, never, guarded, rule, skip, Sight, rule_of}
+use Rattle.asn_rules.specs.declared.marks.Mark.{Mark}
+use Rattle.asn_rules.specs.Expression.{Expression, see, marked, seq, choice, many, never, guarded, rule, skip, Sight, rule_of}
 use Rattle.asn_rules.specs.Lexical.{stands, width}
 use Rattle.asn_rules.specs.Guards.{allows}
 use Rattle.asn_rules.specs.declared.expression.Guard.{Guard}
@@ -26,6 +27,7 @@ judged text g i j = if allows g (slice_range text i j) then ends j else fails
 -- The expression, tried at the offset, comes to the ending with the height: how many calls lie within each other at most.
 pub data Runs (rules : List Expression) (text : List ℕ) : Expression → ℕ → Ending → ℕ → Type 0 where
   sees : {s : Sight} {i : ℕ} → Runs rules text (see s) i (seen text s i) 0
+  sees_mark : {m : Mark} {s : Sight} {i : ℕ} → Runs rules text (marked m s) i (seen text s i) 0
   seq_ends : {a b : Expression} {i j h k : ℕ} {o : Ending} → Runs rules text a i (ends j) h → Runs rules text b j o k → Runs rules text (seq a b) i o (max h k)
   seq_fails : {a b : Expression} {i h : ℕ} → Runs rules text a i fails h → Runs rules text (seq a b) i fails h
   choice_first : {a b : Expression} {i j h : ℕ} → Runs rules text a i (ends j) h → Runs rules text (choice a b) i (ends j) h

@@ -1,7 +1,9 @@
 -- Numbers, read digit by digit, and bytes outside blanks and comments, found one by one. Only private contracts cite these.
-use Rattle.std.specs.Prelude.{ℕ, ◌+◌, ◌*◌, ◌-◌, ◌^◌, List, [], ◌∷◌, Bool, true, false, ◌&&◌, nat_lt, Option, Some, None, if◌then◌else◌, ℤ}
+use Rattle.std.specs.Prelude.{ℕ, ◌+◌, ◌*◌, ◌-◌, ◌^◌, List, [], ◌∷◌, Bool, true, ◌&&◌, nat_lt, Option, Some, None, if◌then◌else◌, ℤ}
 use Rattle.asn_rules.specs.Lexical.{is_digit}
-use Rattle.asn_rules.specs.Guards.{within, is_outside, is_empty, before_dot, fitting}
+use Rattle.asn_rules.specs.Guards.{within, is_outside, is_empty, before, mantissa, fitting}
+use Rattle.asn_rules.specs.declared.guards.Stretch.{Stretch}
+use Rattle.asn_rules.specs.declared.guards.Stretch.TheVariants.{All, Before, Mantissa}
 
 -- the number with a digit behind it, below 2^128
 abbrev pub lengthened : ℕ → ℕ → Option ℕ
@@ -31,7 +33,8 @@ abbrev pub starts_bare : List ℕ → Bool
 starts_bare [] = true
 starts_bare (b ∷ bs) = is_outside (within 0) (b ∷ bs)
 
--- the bytes, or those before the first dot
-abbrev pub part : Bool → List ℕ → List ℕ
-part true bs = before_dot bs
-part false bs = bs
+-- the part of the bytes that a walk goes over
+abbrev pub part : Stretch → List ℕ → List ℕ
+part All bs = bs
+part (Before mark) bs = before mark bs
+part Mantissa bs = mantissa bs

@@ -4,16 +4,18 @@
 //! none, and is run by `run.rt`. `rules.rt` calls it.
 
 ghost use Rattle.std.specs.Prelude.{◌≡◌, ◌≤◌, ◌<◌, ◌+◌, length, IfOk};
-ghost use Rattle.asn_rules.specs.Expression.{expression, seq, choice, many, guarded, rule};
+ghost use Rattle.asn_rules.specs.Runs.{seen};
+ghost use Rattle.asn_rules.specs.Expression.{expression, sight, seq, choice, many, guarded, rule};
 ghost use Rattle.asn_rules.specs.Answer.{answer};
-ghost use Rattle.asn_rules.specs.Grown.{grown, after, of_outcome, IsWithinGrowth};
+ghost use Rattle.asn_rules.specs.Grown.{grown, after, of_outcome, with_leaf, IsWithinGrowth};
 ghost use Rattle.asn_rules.specs.Grammar.{rules_of};
 
-use crate::expression::{Expression, Guard};
+use crate::expression::{Expression, Guard, Sight};
 use crate::grammar::{Grammar, rule_expression};
 use crate::guards::is_allowed;
+use crate::marks::Mark;
 use crate::node::Node;
-use crate::run::{MatchFault, Outcome, run};
+use crate::run::{MatchFault, Outcome, run, see_at};
 use asn_memory::{List, Mem};
 use std::alloc::Global;
 
@@ -89,6 +91,32 @@ fn grow_none(
     Growth::of(alloc, run(grammar, text, expr, offset, depth))
 }
 
+// The leaf of a mark, where it is seen.
+fn grow_mark(alloc: Global, text: &[u8], mark: Mark, look: &Sight, offset: usize) -> Mem<Growth>
+    requires { offset ≤ length text.now }
+    ensures { IfOk result (λ g. g ≡ with_leaf mark offset (seen text.now (sight look.now) offset)) }
+{
+    match see_at(text, look, offset) {
+        Outcome::End {
+            offset: end,
+            height,
+        } => {
+            let leaf = Node {
+                rule: mark.number(),
+                start: offset,
+                end,
+                children: List::new(alloc),
+            };
+            Ok(Growth::End {
+                offset: end,
+                height,
+                nodes: List::of(alloc, leaf)?,
+            })
+        }
+        Outcome::Fail { height } => Ok(Growth::Fail { height }),
+    }
+}
+
 // What the expression grows at the offset, where no more than `depth` calls lie within each other.
 #[cycle(growing)]
 #[tactic(auto, using(crate::proofs::Trees::see_grown, crate::proofs::Trees::skip_grown))]
@@ -106,6 +134,7 @@ pub(crate) fn grow(
 {
     match expr {
         Expression::See(_) => Ok(grow_none(alloc, grammar, text, expr, offset, depth)),
+        Expression::Marked(mark, look) => grow_mark(alloc, text, *mark, look, offset),
         Expression::Call(id) => grow_rule(alloc, grammar, text, *id, offset, depth),
         Expression::Skip(_) => Ok(grow_none(alloc, grammar, text, expr, offset, depth)),
         Expression::Sequence(left, right) => {

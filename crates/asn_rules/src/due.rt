@@ -83,7 +83,7 @@ const PARTS: [ModulePart; 5] = [
 
 static NOTHING: Expression = Expression::See(Sight::Bytes(b""));
 
-static BLANKS: Expression = Expression::Skip(SP);
+static GAP: Expression = Expression::Skip(SP);
 
 static BEFORE_ASSIGNMENT: Expression = Expression::Call(ENVIRONMENTS);
 
@@ -217,8 +217,8 @@ fn place_of(
     requires within { tried ≤ length text.now }
     ensures { Found first text.now depth offset result }
 {
-    match come_to(text, &BLANKS, offset, depth) {
-        Attempt::End(module) => match come_to(text, &BLANKS, tried, depth) {
+    match come_to(text, &GAP, offset, depth) {
+        Attempt::End(module) => match come_to(text, &GAP, tried, depth) {
             Attempt::End(place) => Some(DuePlace {
                 part,
                 module,
@@ -237,7 +237,7 @@ fn is_followed(text: &[u8], offset: usize, depth: usize) -> bool
     requires { offset ≤ length text.now }
     ensures { IsFollowed first text.now depth offset result }
 {
-    match come_to(text, &BLANKS, offset, depth) {
+    match come_to(text, &GAP, offset, depth) {
         Attempt::End(next) => next < text.len(),
         Attempt::Fail => false,
         Attempt::TooDeep => false,

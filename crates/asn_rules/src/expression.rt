@@ -2,6 +2,8 @@
 //!
 //! The tables in `first.rt` and `whole.rt` are made of these, and the interpreters in `run.rt` and `derive.rt` read them.
 
+use crate::marks::Mark;
+
 /// A class of bytes. Letters and digits are those of ASCII.
 #[derive(Clone, Copy)]
 pub enum ByteClass {
@@ -19,6 +21,12 @@ pub enum ByteClass {
     Alnum,
     /// An upper-case letter or a digit.
     Cap,
+    /// `A` to `F`.
+    HexLetter,
+    /// A letter or a mark of a time: one of `+-:.,/CDHMRPSTWYZ`.
+    TimeMark,
+    /// A mark of a label: one of `-_~./`.
+    LabelMark,
     /// The line feed.
     LineFeed,
     /// Each byte.
@@ -42,6 +50,21 @@ pub enum Guard {
     FitsI32,
     /// They are two numbers as [`Guard::FitsI128`] asks, with `..` between them, the first at most the second.
     IsOrdered,
+    /// They are a whole number from 0 to 255.
+    FitsU8,
+    /// They are the number 2 or 10.
+    IsBase,
+    /// They are a number with a point: its digits without the point fit as [`Guard::FitsI128`] asks, and so do its
+    /// exponent, and its exponent less the count of decimals as [`Guard::FitsI32`] asks.
+    FitsReal,
+    /// They are four numbers as [`Guard::FitsU8`] asks, in braces and parted by commas, that tell a character.
+    IsCharacter,
+    /// They are the name of a property, `=` and one of its settings.
+    IsSetting,
+    /// There are a digit and another byte among them, with those of blanks and comments counted.
+    IsTime,
+    /// There is no `//` among them, nor a `/` in front, with those of blanks and comments counted.
+    HasLabels,
 }
 
 /// What can stand at an offset.
@@ -60,6 +83,8 @@ pub enum Sight {
 pub enum Expression {
     /// What is seen here is taken.
     See(Sight),
+    /// What is seen here is taken, and leaves a leaf with the number of its mark.
+    Marked(Mark, Sight),
     /// The rule of this number stands here, as a node of the tree.
     Call(u8),
     /// The rule of this number stands here, and leaves no node.

@@ -9,12 +9,13 @@ ghost use Rattle.asn_rules.specs.First.{first};
 
 use crate::expression::Expression::{Call, Guarded, Many, Not};
 use crate::expression::{Expression, Guard, Sight};
-use crate::forms::{ANY, BLANKS, EMPTY, GAP, choice, keyword, option, seq, some, symbol, word};
+use crate::forms::{ANY, BLANKS, EMPTY, GAP, choice, keyword, option, seq, some, symbol, words};
 use crate::lexical_rules::{
     NO_RULE, RULE_1, RULE_2, RULE_3, RULE_4, RULE_5, RULE_6, RULE_7, RULE_8, RULE_9, RULE_10,
     RULE_11, RULE_12, RULE_13, RULE_14, RULE_15, RULE_16, RULE_17, RULE_18, RULE_19, RULE_20,
     RULE_21, RULE_22,
 };
+use crate::marks::Mark;
 use crate::names::{
     ASN_MODULE, ASN1_TYPE, ASN1_VALUE, ASSIGNMENT, BOOLEAN, COMPONENT_LIST, CONSTRAINT, DEFINITION,
     ELSEWHERE_DECLARED_TYPE, END, ENVIRONMENTS, IDENTIFIER, INTEGER, INTEGER_VALUE,
@@ -59,9 +60,10 @@ static RULE_133: Expression = Guarded(
 );
 // 166 tag_default = words(AUTOMATIC, IMPLICIT, EXPLICIT) 'TAGS'
 static RULE_166: Expression = seq!(
-    seq!(
-        BLANKS,
-        choice!(word!(b"AUTOMATIC"), word!(b"IMPLICIT"), word!(b"EXPLICIT"))
+    words!(
+        (Automatic, b"AUTOMATIC"),
+        (Implicit, b"IMPLICIT"),
+        (Explicit, b"EXPLICIT")
     ),
     keyword!(b"TAGS")
 );

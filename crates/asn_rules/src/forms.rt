@@ -1,6 +1,6 @@
 //! The forms of a row: the macros and the small expressions of which the tables are made.
 //!
-//! `lexical_rules.rt` and `first.rt` write their rows with these.
+//! The files of rows write with these.
 
 use crate::expression::{ByteClass, Expression, Sight};
 use crate::names::SP;
@@ -43,11 +43,47 @@ macro_rules! keyword {
 
 pub(crate) use keyword;
 
+macro_rules! symbol_as {
+    ($mark:ident, $text:expr) => {
+        Expression::Sequence(&GAP, &Expression::Marked(Mark::$mark, Sight::Bytes($text)))
+    };
+}
+
+pub(crate) use symbol_as;
+
+macro_rules! keyword_as {
+    ($mark:ident, $text:expr) => {
+        Expression::Sequence(&GAP, &Expression::Marked(Mark::$mark, Sight::Word($text)))
+    };
+}
+
+pub(crate) use keyword_as;
+
 macro_rules! option {
     ($a:expr) => { Expression::Choice(&$a, &EMPTY) };
 }
 
 pub(crate) use option;
+
+macro_rules! parens {
+    ($a:expr) => { choice!(seq!(symbol!(b"("), $a, symbol!(b")")), $a) };
+}
+
+pub(crate) use parens;
+
+macro_rules! words {
+    ($(($mark:ident, $word:expr)),+) => {
+        seq!(GAP, choice!($(Expression::Marked(Mark::$mark, Sight::Word($word))),+))
+    };
+}
+
+pub(crate) use words;
+
+macro_rules! ahead {
+    ($a:expr) => { Expression::Not(&Expression::Not(&$a)) };
+}
+
+pub(crate) use ahead;
 
 macro_rules! some {
     ($a:expr) => { Expression::Sequence(&$a, &Expression::Many(&$a)) };
@@ -75,6 +111,14 @@ pub(crate) const CAP: Expression = Expression::See(Sight::OneOf(ByteClass::Cap))
 pub(crate) const BLANK: Expression = Expression::See(Sight::OneOf(ByteClass::Blank));
 
 pub(crate) const LOWER: Expression = Expression::See(Sight::OneOf(ByteClass::Lower));
+
+pub(crate) const UPPER: Expression = Expression::See(Sight::OneOf(ByteClass::Upper));
+
+pub(crate) const HEX_LETTER: Expression = Expression::See(Sight::OneOf(ByteClass::HexLetter));
+
+pub(crate) const TIME_MARK: Expression = Expression::See(Sight::OneOf(ByteClass::TimeMark));
+
+pub(crate) const LABEL_MARK: Expression = Expression::See(Sight::OneOf(ByteClass::LabelMark));
 
 pub(crate) const LINE_FEED: Expression = Expression::See(Sight::OneOf(ByteClass::LineFeed));
 

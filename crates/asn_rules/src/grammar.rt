@@ -15,7 +15,7 @@ use crate::whole::whole_expression;
 pub enum Grammar {
     /// Modules of SEQUENCE, INTEGER with a range, BOOLEAN, and types declared elsewhere.
     First,
-    /// The whole of ASN.1; so far its lexical rules.
+    /// The whole of ASN.1.
     Whole,
 }
 

@@ -2,14 +2,15 @@
 //!
 //! The lowest file of this crate; the guards and both interpreters call it.
 
-ghost use Rattle.std.specs.Prelude.{◌≡◌, ◌≤◌, ◌+◌, length, drop, IsTrue};
+ghost use Rattle.std.specs.Prelude.{◌≡◌, ◌≤◌, ◌+◌, length, drop, IsTrue, nat_eq};
+ghost use Rattle.std.specs.List.{list_any};
 ghost use Rattle.asn_rules.specs.Expression.{sight};
 ghost use Rattle.asn_rules.specs.Lexical.{in_class, is_alnum, word_ends, first_in, stands, width};
 
 use crate::expression::{ByteClass, Sight};
 
 /// Whether the byte is of the class.
-pub(crate) fn is_in_class(class: ByteClass, byte: u8) -> bool
+pub fn is_in_class(class: ByteClass, byte: u8) -> bool
     ensures { result ≡ in_class class byte }
 {
     match class {
@@ -24,9 +25,18 @@ pub(crate) fn is_in_class(class: ByteClass, byte: u8) -> bool
                 || (b'a' <= byte && byte <= b'z')
         }
         ByteClass::Cap => (b'A' <= byte && byte <= b'Z') || (b'0' <= byte && byte <= b'9'),
+        ByteClass::HexLetter => b'A' <= byte && byte <= b'F',
+        ByteClass::TimeMark => is_one_of(byte, b"+-:.,/CDHMRPSTWYZ"),
+        ByteClass::LabelMark => is_one_of(byte, b"-_~./"),
         ByteClass::LineFeed => byte == 10,
         ByteClass::Any => true,
     }
+}
+
+fn is_one_of(byte: u8, bytes: &[u8]) -> bool
+    ensures { result ≡ list_any (λ b. nat_eq byte b) bytes.now }
+{
+    bytes.iter().any(|b| byte == *b)
 }
 
 fn is_alnum_byte(byte: u8) -> bool
@@ -35,7 +45,8 @@ fn is_alnum_byte(byte: u8) -> bool
     is_in_class(ByteClass::Alnum, byte)
 }
 
-fn is_word_end(rest: &[u8]) -> bool
+/// Whether a word ends before these bytes: there is no letter or digit, nor a hyphen that is followed by one (X.680 12.38).
+pub fn is_word_end(rest: &[u8]) -> bool
     ensures { result ≡ word_ends rest.now }
 {
     match rest {

@@ -5,6 +5,8 @@
 //! [`names`].
 #![tactic(auto)]
 
+mod constraint_rules;
+mod definition_rules;
 mod derive;
 mod due;
 mod expression;
@@ -13,26 +15,30 @@ mod forms;
 mod gaps;
 mod grammar;
 mod guards;
+mod header_rules;
 mod lexical;
 mod lexical_rules;
+mod marks;
 pub mod names;
 mod node;
+mod object_rules;
 mod rule_names;
 mod rules;
 mod run;
+mod type_rules;
+mod value_rules;
 mod whole;
 
 pub use due::{DuePlace, ModulePart, due_place, one_due_place};
 pub use expression::{ByteClass, Expression, Guard, Sight};
 pub use grammar::{Grammar, rule_expression};
-pub use guards::{ASN1_KEYWORDS, is_keyword, natural_number, whole_number};
+pub use guards::{ASN1_KEYWORDS, is_keyword, natural_number, reserved_words, whole_number};
+pub use lexical::{is_in_class, is_word_end};
+pub use marks::Mark;
 pub use node::Node;
-pub use rule_names::reader_rule;
+pub use rule_names::{numbers_are_those_of_names, reader_rule};
 pub use rules::{
     RuleId, derive_rule, ends_at_characters, nodes_stand, one_outcome, one_tree, outcome_of,
     try_rule,
 };
 pub use run::{MatchFault, Outcome, TooDeep};
-
-#[cfg(test)]
-mod tests;

@@ -2,10 +2,12 @@
 //!
 //! `derive.rt` grows these, and the readers above ask them for their children.
 
-ghost use Rattle.std.specs.Prelude.{◌≡◌, ◌<◌, IfSome};
+ghost use Rattle.std.specs.Prelude.{◌≡◌, ◌<◌, ℕ, List as Sequence, IfSome, IsSome};
+ghost use Rattle.asn_rules.specs.Children.{Is, StandsBy};
+ghost use Rattle.asn_rules.specs.Expression.{Expression as Row};
 ghost use Rattle.asn_rules.specs.declared.node.Node.{size-Node};
 ghost use Rattle.std.specs.Option.{option_copied};
-ghost use Rattle.asn_rules.specs.Nodes.{child_of};
+ghost use Rattle.asn_rules.specs.Nodes.{child_of, first_child_of, nth_among, nth_child_of};
 
 use asn_memory::List;
 
@@ -25,10 +27,87 @@ impl Node {
     pub fn child(&self, rule: u8) -> Option<&Node>
         ensures value { option_copied result ≡ child_of self.now rule }
         ensures within { IfSome result (λ child. size-Node child.now < size-Node self.now) }
+        ensures stands { (table : Sequence Row) (text : Sequence ℕ) → StandsBy table text self.now → IfSome result (λ child. Is table text rule child.now) }
+    {
+        self.found(rule)
+    }
+
+    fn found(&self, rule: u8) -> Option<&Node>
+        ensures value { option_copied result ≡ child_of self.now rule }
+        ensures within { IfSome result (λ child. size-Node child.now < size-Node self.now) }
     {
         self.children
             .as_slice()
             .iter()
             .find(|child| child.rule == rule)
     }
+
+    /// The first child, where there is one.
+    pub fn first_child(&self) -> &Node
+        requires { IsSome (first_child_of self.now) }
+        ensures value { first_child_of self.now ≡ Some result.now }
+        ensures within { size-Node result.now < size-Node self.now }
+        ensures stands { (table : Sequence Row) (text : Sequence ℕ) → StandsBy table text self.now → StandsBy table text result.now }
+    {
+        self.first_found()
+    }
+
+    fn first_found(&self) -> &Node
+        requires { IsSome (first_child_of self.now) }
+        ensures value { first_child_of self.now ≡ Some result.now }
+        ensures within { size-Node result.now < size-Node self.now }
+    {
+        match self.children.as_slice() {
+            [first, ..] => first,
+            [] => unreachable!(),
+        }
+    }
+
+    /// The child of this rule that has `before` others of it before it, or None.
+    pub fn nth_child(&self, rule: u8, before: usize) -> Option<&Node>
+        ensures value { option_copied result ≡ nth_child_of self.now rule before }
+        ensures stands { (table : Sequence Row) (text : Sequence ℕ) → StandsBy table text self.now → IfSome result (λ child. Is table text rule child.now) }
+    {
+        nth_of(self.children.as_slice(), rule, before)
+    }
+
+    /// The child of this rule that has `before` others of it before it, where there is one.
+    pub fn the_nth_child(&self, rule: u8, before: usize) -> &Node
+        requires { IsSome (nth_child_of self.now rule before) }
+        ensures value { nth_child_of self.now rule before ≡ Some result.now }
+        ensures stands { (table : Sequence Row) (text : Sequence ℕ) → StandsBy table text self.now → Is table text rule result.now }
+    {
+        match self.nth_child(rule, before) {
+            Some(child) => child,
+            None => unreachable!(),
+        }
+    }
+
+    /// The first child of this rule, where there is one.
+    pub fn the_child(&self, rule: u8) -> &Node
+        requires { IsSome (child_of self.now rule) }
+        ensures value { child_of self.now rule ≡ Some result.now }
+        ensures within { size-Node result.now < size-Node self.now }
+        ensures stands { (table : Sequence Row) (text : Sequence ℕ) → StandsBy table text self.now → Is table text rule result.now }
+    {
+        match self.child(rule) {
+            Some(child) => child,
+            None => unreachable!(),
+        }
+    }
+}
+
+fn nth_of(nodes: &[Node], rule: u8, before: usize) -> Option<&Node>
+    ensures { option_copied result ≡ nth_among nodes.now rule before }
+{
+    let mut left = before;
+    for node in nodes {
+        if node.rule == rule {
+            if left == 0 {
+                return Some(node);
+            }
+            left -= 1;
+        }
+    }
+    None
 }

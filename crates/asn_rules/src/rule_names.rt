@@ -4,7 +4,9 @@
 
 ghost use Rattle.std.specs.Prelude.{◌≡◌, ◌<◌, position, bytes_eq, length, map, IfSome};
 ghost use Rattle.std.specs.Option.{option_map};
-ghost use Rattle.asn_rules.specs.RuleNames.{rule_names, rule_named};
+ghost use Rattle.asn_rules.specs.RuleNames.{is_named_so, numbered, rule_names, rule_named};
+ghost use Rattle.std.specs.List.{list_all};
+ghost use Rattle.std.specs.Prelude.{true};
 
 use crate::rules::RuleId;
 
@@ -220,6 +222,11 @@ pub fn reader_rule(name: &str) -> Option<RuleId>
         None => None,
     }
 }
+
+/// A law: each constant of [`crate::names`] that is a rule's is the number of the rule of its name.
+pub fn numbers_are_those_of_names()
+    ensures { list_all is_named_so numbered ≡ true }
+{}
 
 // The index of the name among the names.
 fn index_of(names: &[&str], name: &str) -> Option<usize>

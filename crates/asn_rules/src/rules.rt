@@ -58,8 +58,7 @@ pub fn outcome_of(
 }
 
 /// The outcome and the height of the rule at this offset, in bytes from the start of the text, by the table of the whole
-/// of ASN.1, where no more than `depth` calls lie within each other. So far the table has rules 1 to 22, and the others
-/// fail everywhere.
+/// of ASN.1, where no more than `depth` calls lie within each other.
 ///
 /// # Errors
 ///

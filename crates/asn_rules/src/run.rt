@@ -13,6 +13,7 @@ use crate::expression::{Expression, Guard, Sight};
 use crate::grammar::{Grammar, rule_expression};
 use crate::guards::is_allowed;
 use crate::lexical::{stands_in, width_of};
+use thiserror::Error;
 
 /// What a try of a rule came to. Its height counts the calls that lie within each other, itself included.
 #[derive(Clone, Copy, Debug, PartialEq, Eq)]
@@ -24,16 +25,19 @@ pub enum Outcome {
 }
 
 /// Why a try has no outcome.
-#[derive(Clone, Copy, Debug, PartialEq, Eq)]
+#[derive(Clone, Copy, Debug, Error, PartialEq, Eq)]
 pub enum MatchFault {
     /// The height is above the depth that was allowed.
+    #[error("the calls of rules nest deeper than is allowed")]
     TooDeep,
     /// A growth was refused.
+    #[error("out of memory")]
     OutOfMemory,
 }
 
 /// The height of a try is above the depth that was allowed.
-#[derive(Clone, Copy, Debug, PartialEq, Eq)]
+#[derive(Clone, Copy, Debug, Error, PartialEq, Eq)]
+#[error("the calls of rules nest deeper than is allowed")]
 pub struct TooDeep;
 
 impl Outcome {
@@ -54,7 +58,7 @@ impl Outcome {
 }
 
 // What is seen at the offset.
-fn see_at(text: &[u8], look: &Sight, offset: usize) -> Outcome
+pub(crate) fn see_at(text: &[u8], look: &Sight, offset: usize) -> Outcome
     requires { offset ≤ length text.now }
     ensures { result ≡ at_height (seen text.now (sight look.now) offset) 0 }
 {
@@ -83,6 +87,7 @@ pub(crate) fn run(
 {
     match expr {
         Expression::See(look) => Ok(see_at(text, look, offset)),
+        Expression::Marked(_, look) => Ok(see_at(text, look, offset)),
         Expression::Call(id) => run_rule(grammar, text, *id, offset, depth),
         Expression::Skip(id) => run_rule(grammar, text, *id, offset, depth),
         Expression::Sequence(left, right) => run_sequence(

@@ -1,7 +1,8 @@
-//! The largest text, and the greatest depth.
+//! The largest text, and the depths that words ask for.
 
 use crate::texts::words_of;
-use asn_tool::{LONGEST, Status, SureSink, SureSource, run};
+use asn_streams::{SureSink, SureSource};
+use asn_tool::{LONGEST, Status, run};
 use std::alloc::{AllocError, Global};
 use std::process::Abort;
 use std::test::Fail;
@@ -85,6 +86,14 @@ fn depths(rt: HostRuntime) -> Result<(), Fail> {
         &["link", "--depth", "100"],
         text.as_bytes(),
         "error depth 100\n",
+        Status::TooDeep,
+    )?;
+    assert_error(
+        &rt,
+        alloc,
+        &["link", "--depth", "1"],
+        text.as_bytes(),
+        "error depth 1\n",
         Status::TooDeep,
     )?;
     assert_error(

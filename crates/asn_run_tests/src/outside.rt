@@ -3,7 +3,8 @@
 ghost use Rattle.std.specs.Prelude.{◌<◌};
 
 use crate::texts::{LISTING, WHOLE, words_of};
-use asn_tool::{ListSink, ListSource, Status, SureSink, SureSource, run};
+use asn_streams::{ListSink, ListSource, SureSink, SureSource};
+use asn_tool::{Status, run};
 use std::alloc::Global;
 use std::process::Abort;
 use std::test::Fail;

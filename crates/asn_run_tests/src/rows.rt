@@ -1,7 +1,8 @@
 //! Texts, and what a run writes for each.
 
 use crate::texts::{LISTING, WHOLE, module, words_of};
-use asn_tool::{Source, Status, SureSink, SureSource, run};
+use asn_streams::{Source, SureSink, SureSource};
+use asn_tool::{Status, run};
 use std::alloc::Global;
 use std::process::Abort;
 use std::test::Fail;
@@ -167,9 +168,8 @@ fn other_words(rt: HostRuntime) -> Result<(), Fail> {
     assert_usage(&rt, alloc, &[])?;
     assert_usage(&rt, alloc, &["link", "link"])?;
     assert_usage(&rt, alloc, &["link", "--depth"])?;
-    assert_usage(&rt, alloc, &["link", "--depth", "0"])?;
-    assert_usage(&rt, alloc, &["link", "--depth", "2001"])?;
-    assert_usage(&rt, alloc, &["link", "--depth", "0512"])?;
+    assert_usage(&rt, alloc, &["link", "--depth", "5", "5"])?;
+    assert_usage(&rt, alloc, &["--depth", "5", "link"])?;
     assert_usage(&rt, alloc, &["link", "--depth=5"])?;
     assert_usage(&rt, alloc, &["sample", "1"])?;
     assert_usage(&rt, alloc, &["Link"])?;
@@ -177,19 +177,21 @@ fn other_words(rt: HostRuntime) -> Result<(), Fail> {
 }
 
 #[test]
-fn numbers_of_statuses(rt: HostRuntime) {
-    for (status, number) in [
-        (Status::Clean, 0),
-        (Status::Warned, 1),
-        (Status::Matching, 2),
-        (Status::TooDeep, 3),
-        (Status::NotUtf8, 4),
-        (Status::TooLong, 5),
-        (Status::ReadFault, 6),
-        (Status::WriteFault, 7),
-        (Status::Usage, 8),
-        (Status::OutOfMemory, 9),
+fn a_depth_has_one_spelling(rt: HostRuntime) -> Result<(), Fail> {
+    for number in [
+        "",
+        "0",
+        "007",
+        "0512",
+        "+5",
+        "-5",
+        " 5",
+        "5.",
+        "2001",
+        "18446744073709551617",
+        "100000000000000000000000000000000000000005",
     ] {
-        assert_eq!(rt; status.number(), number, "of {status:?}");
+        assert_usage(&rt, rt.alloc(), &["link", "--depth", number])?;
     }
+    Ok(())
 }

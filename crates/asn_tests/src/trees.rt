@@ -2,7 +2,8 @@
 
 use asn_copy_tests::parts::range_in;
 use asn_run_tests::texts::{WHOLE, words_of};
-use asn_tool::{Ended, SureSink, SureSource, run};
+use asn_streams::{SureSink, SureSource};
+use asn_tool::{Ended, run};
 use asn_tree::{TaggingEnvironment, ToplevelDefinition};
 use std::alloc::Global;
 use std::test::Fail;

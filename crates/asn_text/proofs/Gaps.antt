@@ -6,7 +6,7 @@ use Rattle.std.proofs.lemmas.Str.{IsCharBoundary-after_ascii}
 use Rattle.std.specs.Prelude.{nat_eq, codes, ◌||◌, if◌then◌else◌, ◌-◌, take, slice_range}
 use Rattle.std.specs.List.{starts_with}
 use Rattle.std.specs.Str.{IsUtf8, IsCharBoundary}
-use Rattle.asn_rules.specs.Expression.{Expression, see, seq, choice, many, never, guarded, rule, skip, rule_of, bytes}
+use Rattle.asn_rules.specs.Expression.{Expression, see, marked, seq, choice, many, never, guarded, rule, skip, rule_of, bytes}
 use Rattle.asn_rules.specs.Runs.{ends, fails, Runs, ExactlyOne}
 use Rattle.asn_rules.specs.Whole.{whole_rules}
 use Rattle.asn_rules.specs.LexicalRules.{lexical_rules_before}
@@ -143,6 +143,7 @@ module _ (text : List ℕ) where
 
   passed : (e : Expression) {j h : ℕ} → Runs whole_rules text e 0 (ends j) h → passes e (slice_range text 0 j) ≡ true
   passed (see s) run = refl
+  passed (marked m s) run = refl
   passed (seq a b) run = refl
   passed (choice a b) run = refl
   passed (many a) run = refl

@@ -6,9 +6,12 @@ use Rattle.asn_rules.specs.Guards.{bare, natural, integer, allows}
 use Rattle.asn_rules.specs.Lexical.{stands, width}
 use Rattle.asn_rules.specs.Runs.{Ending, ends, fails, Runs, Exceeds}
 use Rattle.asn_rules.specs.Whole.{whole_rules}
+use Rattle.asn_rules.specs.declared.names.TheConstants.{BLOCK_COMMENT, COMMENT, COMMENT_BODY, LINE_BODY, LINE_COMMENT, SP}
 use Rattle.asn_text.specs.Part.{Part, shown, part_from}
 use Rattle.asn_text.specs.Input.{part_of}
 use Rattle.asn_text.specs.Fault.{IsNamedLeaf}
+use Rattle.asn_text.specs.declared.gap.Sought.{Sought}
+use Rattle.asn_text.specs.declared.gap.Sought.TheVariants.{Word, Symbol}
 use Rattle.asn_text.specs.declared.input.Input.{Input}
 use Rattle.asn_text.specs.declared.errors.ErrorTree.{out-ErrorTree}
 use Rattle.asn_text.specs.declared.fault.ParseFault.{ParseFault}
@@ -46,7 +49,7 @@ pub record Reads (number depth : ℕ) (part rest : Part) (made : ℕ → Type 0)
 
 -- the bytes up to the rule's end, without the blanks and comments before them
 abbrev pub IsItem : List ℕ → List ℕ → ℕ → Type 0
-IsItem text item place = (start height : ℕ) × (Tries text 1 (ends start) height × (item ≡ slice_range text start place))
+IsItem text item place = (start height : ℕ) × (Tries text SP (ends start) height × (item ≡ slice_range text start place))
 
 -- the bytes between the marks of a comment, where this rule ends that is tried behind the first mark
 abbrev pub IsBody : ℕ → List ℕ → List ℕ → Type 0
@@ -54,18 +57,18 @@ IsBody number text body = (place height : ℕ) × (Runs whole_rules text (rule n
 
 -- the rule of what stands within a block comment, or else within a line comment
 abbrev pub body_rule : List ℕ → ℕ
-body_rule text = if starts_with nat_eq text (codes "/*") then 4 else 6
+body_rule text = if starts_with nat_eq text (codes "/*") then COMMENT_BODY else LINE_BODY
 
 -- The rule begins with blanks and comments.
 abbrev pub skips_gap : Expression → Bool
-skips_gap (seq (rule number) rest) = nat_eq number 1
-skips_gap (seq (skip number) rest) = nat_eq number 1
-skips_gap (guarded (seq (rule number) rest) guard) = nat_eq number 1
+skips_gap (seq (rule number) rest) = nat_eq number SP
+skips_gap (seq (skip number) rest) = nat_eq number SP
+skips_gap (guarded (seq (rule number) rest) guard) = nat_eq number SP
 skips_gap expression = false
 
 -- The three rules of comments.
 abbrev pub is_comment : ℕ → Bool
-is_comment number = nat_eq number 2 || nat_eq number 3 || nat_eq number 5
+is_comment number = nat_eq number COMMENT || nat_eq number BLOCK_COMMENT || nat_eq number LINE_COMMENT
 
 -- A rule ends at a place, with a height that is at most the depth, and not behind the end.
 pub record HasPart (text : List ℕ) (number offset depth end : ℕ) : Type 0 where
@@ -89,25 +92,26 @@ pub record IsTaken (text : List ℕ) (number : ℕ) (taken : List ℕ) (place : 
 -- What is looked for stands behind the blanks and comments, and is read.
 pub record Finds (sought : Sight) (depth : ℕ) (part rest : Part) (found : List ℕ) : Type 0 where
   pub place : ℕ
-  pub gap_ends : EndsAt (shown part) 1 depth place
+  pub gap_ends : EndsAt (shown part) SP depth place
   pub stands_there : stands sought (drop place (shown part)) ≡ true
   pub rest_is : rest ≡ part_from (place + width sought) part
   pub found_is : found ≡ slice_range (shown part) place (place + width sought)
 
 -- What is looked for does not stand behind the blanks and comments.
 abbrev pub Misses : Sight → List ℕ → ℕ → Type 0
-Misses sought text depth = (place : ℕ) × (EndsAt text 1 depth place × (stands sought (drop place text) ≡ false))
+Misses sought text depth = (place : ℕ) × (EndsAt text SP depth place × (stands sought (drop place text) ≡ false))
 
 -- A fault of looking behind the blanks and comments: too deep exactly where their height exceeds the depth, a failure
 -- exactly where it does not and nothing is found, and never want of memory.
 abbrev pub IsFaultOfFinding : Sight → List ℕ → Input → ℕ → ParseFault → Type 0
 IsFaultOfFinding sought name input depth (Fail tree) = Misses sought (shown (part_of input)) depth × IsNamedLeaf input name (out-ErrorTree tree)
-IsFaultOfFinding sought name input depth TooDeep = IsTooDeep (shown (part_of input)) 1 depth
+IsFaultOfFinding sought name input depth TooDeep = IsTooDeep (shown (part_of input)) SP depth
 IsFaultOfFinding sought name input depth OutOfMemory = ⊥
 
 -- a whole word, or these bytes
-abbrev pub sight_of : Bool → List ℕ → Sight
-sight_of is_word text = if is_word then whole_word text else bytes text
+abbrev pub sight_of : Sought → List ℕ → Sight
+sight_of Word text = whole_word text
+sight_of Symbol text = bytes text
 
 -- the number that digits alone spell, from 0 to 2^bits - 1
 abbrev pub IsNatural : ℕ → List ℕ → ℕ → ℕ → Type 0
@@ -127,10 +131,10 @@ IsMark place = Unit {0}
 
 -- The rest begins behind the blanks and comments.
 abbrev pub SkipsTo : ℕ → Part → Part → Type 0
-SkipsTo depth part rest = (place : ℕ) × (EndsAt (shown part) 1 depth place × (rest ≡ part_from place part))
+SkipsTo depth part rest = (place : ℕ) × (EndsAt (shown part) SP depth place × (rest ≡ part_from place part))
 
 -- The one fault of passing blanks and comments: their height exceeds the depth.
 abbrev pub IsGapFault : Input → ℕ → ParseFault → Type 0
 IsGapFault input depth (Fail tree) = ⊥
-IsGapFault input depth TooDeep = IsTooDeep (shown (part_of input)) 1 depth
+IsGapFault input depth TooDeep = IsTooDeep (shown (part_of input)) SP depth
 IsGapFault input depth OutOfMemory = ⊥

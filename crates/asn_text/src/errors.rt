@@ -8,6 +8,7 @@ use crate::input::Input;
 use crate::report::ReportData;
 use asn_memory::{Box, Mem};
 use std::alloc::Global;
+use thiserror::Error;
 
 /// The kinds of failures that combinators tell.
 #[derive(Clone, Copy, Debug)]
@@ -48,7 +49,8 @@ pub struct ErrorLeaf<'a> {
 }
 
 /// An error that is a text alone.
-#[derive(Clone, Copy, Debug)]
+#[derive(Clone, Copy, Debug, Error)]
+#[error("{0}")]
 pub struct MiscError(pub &'static str);
 
 /// The links of a branch, the innermost first: at least one.

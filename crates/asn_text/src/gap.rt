@@ -7,7 +7,7 @@ ghost use Rattle.std.specs.Prelude.{◌≡◌, ◌+◌, ◌≤◌, true, false, 
 ghost use Rattle.std.specs.List.{prefix_len, starts_with};
 ghost use Rattle.std.specs.Str.{IsCharBoundary};
 ghost use Rattle.asn_rules.specs.Expression.{bytes, word as whole_word};
-ghost use Rattle.asn_rules.specs.Lexical.{is_blank, is_alnum, stands, width, word_ends};
+ghost use Rattle.asn_rules.specs.Lexical.{is_blank, stands, width};
 ghost use Rattle.asn_text.specs.Input.{part_of};
 ghost use Rattle.asn_text.specs.Part.{shown, part_from};
 ghost use Rattle.asn_text.specs.Reads.{EndsAt, Finds, IsFaultOfFinding, IsTooDeep, IsGapFault, sight_of, SkipsTo};
@@ -16,6 +16,7 @@ use crate::fault::{ParseFault, ParserResult, fails};
 use crate::input::Input;
 use crate::readers::end_of;
 use asn_rules::names::SP;
+use asn_rules::{ByteClass, is_in_class, is_word_end};
 
 /// The input behind its blanks: spaces, tabs, line feeds, carriage returns, vertical tabs and form feeds (X.680 12.1.6).
 pub fn skip_ws<'a>(input: Input<'a>) -> Input<'a>
@@ -43,7 +44,7 @@ fn blanks(text: &str) -> usize
 fn is_blank(byte: u8) -> bool
     ensures { result ≡ is_blank byte }
 {
-    byte == b' ' || (9 <= byte && byte <= 13)
+    is_in_class(ByteClass::Blank, byte)
 }
 
 /// The input behind its blanks and comments. It never fails.
@@ -63,7 +64,7 @@ pub fn word<'a>(input: Input<'a>, depth: usize, text: &str) -> ParserResult<'a, 
     ensures ok { IfOk result (λ read. Finds (whole_word text.now) depth (part_of input.entry) (part_of read.0) read.1.now) }
     ensures err { IfErr result (IsFaultOfFinding (whole_word text.now) (codes "word") input.entry depth) }
 {
-    find(input, depth, text, true, "word")
+    find(input, depth, text, Sought::Word, "word")
 }
 
 /// The bytes of `text` behind blanks and comments.
@@ -71,23 +72,30 @@ pub fn symbol<'a>(input: Input<'a>, depth: usize, text: &str) -> ParserResult<'a
     ensures ok { IfOk result (λ read. Finds (bytes text.now) depth (part_of input.entry) (part_of read.0) read.1.now) }
     ensures err { IfErr result (IsFaultOfFinding (bytes text.now) (codes "symbol") input.entry depth) }
 {
-    find(input, depth, text, false, "symbol")
+    find(input, depth, text, Sought::Symbol, "symbol")
+}
+
+/// How a text is looked for: with the end of a word behind it, or as its bytes alone.
+#[derive(Clone, Copy)]
+enum Sought {
+    Word,
+    Symbol,
 }
 
 fn find<'a>(
     input: Input<'a>,
     depth: usize,
     text: &str,
-    is_word: bool,
+    sought: Sought,
     name: &'static str,
 ) -> ParserResult<'a, &'a str>
-    ensures ok { IfOk result (λ read. Finds (sight_of is_word text.now) depth (part_of input.entry) (part_of read.0) read.1.now) }
-    ensures err { IfErr result (IsFaultOfFinding (sight_of is_word text.now) name.now input.entry depth) }
+    ensures ok { IfOk result (λ read. Finds (sight_of sought text.now) depth (part_of input.entry) (part_of read.0) read.1.now) }
+    ensures err { IfErr result (IsFaultOfFinding (sight_of sought text.now) name.now input.entry depth) }
 {
     match gap_end(input, depth) {
         Ok(start) => {
             let shown = input.inner();
-            if stands_at(shown, start, text, is_word) {
+            if stands_at(shown, start, text, sought) {
                 let end = start + text.len();
                 Ok((input.slice_from(end), &shown[start..end]))
             } else {
@@ -108,14 +116,17 @@ fn gap_end<'a>(input: Input<'a>, depth: usize) -> Result<usize, ParseFault<'a>>
 }
 
 /// Whether a text stands at a place, as a whole word or as its bytes.
-fn stands_at(shown: &str, place: usize, text: &str, is_word: bool) -> bool
+fn stands_at(shown: &str, place: usize, text: &str, sought: Sought) -> bool
     requires { IsCharBoundary shown.now place }
-    ensures stands { result ≡ stands (sight_of is_word text.now) (drop place shown.now) }
+    ensures stands { result ≡ stands (sight_of sought text.now) (drop place shown.now) }
     ensures within { IsTrue result → place + length text.now ≤ length shown.now }
     ensures boundary { IsTrue result → IsCharBoundary shown.now (place + length text.now) }
 {
     if begins_with(shown, place, text) {
-        !is_word || ends_word(&shown.as_bytes()[place + text.len()..])
+        match sought {
+            Sought::Word => is_word_end(&shown.as_bytes()[place + text.len()..]),
+            Sought::Symbol => true,
+        }
     } else {
         false
     }
@@ -129,23 +140,4 @@ fn begins_with(shown: &str, place: usize, text: &str) -> bool
     ensures boundary { result ≡ true → IsCharBoundary shown.now (place + length text.now) }
 {
     shown.as_bytes()[place..].starts_with(text.as_bytes())
-}
-
-/// Whether a word ends before these bytes.
-fn ends_word(rest: &[u8]) -> bool
-    ensures { result ≡ word_ends rest.now }
-{
-    match rest {
-        [] => true,
-        [byte] => !is_alnum(*byte),
-        [byte, next, ..] => !(is_alnum(*byte) || (*byte == b'-' && is_alnum(*next))),
-    }
-}
-
-fn is_alnum(byte: u8) -> bool
-    ensures { result ≡ is_alnum byte }
-{
-    (b'0' <= byte && byte <= b'9')
-        || (b'A' <= byte && byte <= b'Z')
-        || (b'a' <= byte && byte <= b'z')
 }

@@ -18,8 +18,6 @@ mod numbers;
 mod place;
 mod readers;
 mod report;
-#[cfg(test)]
-mod tests;
 mod until;
 
 pub use asn_markers::{ExtensionMarker, OptionalMarker, RangeSeperator};

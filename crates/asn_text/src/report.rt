@@ -4,9 +4,11 @@ ghost use Rattle.std.specs.Prelude.{◌≤◌, length};
 ghost use Rattle.asn_text.specs.Report.{IsReport};
 
 use crate::place::place_of;
+use thiserror::Error;
 
 /// Where a text fails, and why. Offsets are in bytes from 0; lines and columns are counted from 1, columns in bytes.
-#[derive(Clone, Copy, Debug)]
+#[derive(Clone, Copy, Debug, Error)]
+#[error("{reason} at line {line}, column {column}")]
 pub struct ReportData {
     /// The line where the context begins.
     pub context_start_line: usize,
@@ -74,7 +76,8 @@ impl Eq for ReportData {
 }
 
 /// An error of reading a whole text.
-#[derive(Clone, Copy, Debug)]
+#[derive(Clone, Copy, Debug, Error)]
+#[error("{kind}")]
 pub struct LexerError {
     pub kind: LexerErrorType,
 }
@@ -105,9 +108,10 @@ impl Eq for LexerError {
 }
 
 /// The kinds of `LexerError`.
-#[derive(Clone, Copy, Debug)]
+#[derive(Clone, Copy, Debug, Error)]
 pub enum LexerErrorType {
     /// The text is none of the grammar.
+    #[error("{0}")]
     MatchingError(ReportData),
 }
 

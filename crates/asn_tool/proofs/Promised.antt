@@ -5,46 +5,46 @@ use Rattle.std.specs.Global.{Global}
 use Rattle.asn_check.specs.declared.linked.Linked.{Linked}
 use Rattle.asn_check.specs.Linked.{IsLinkedOf}
 use Rattle.asn_modules.specs.Whole.{IsReading}
-use Rattle.asn_names.specs.Definitions.{Module, definitions_of, see}
+use Rattle.asn_names.specs.Definitions.{Module}
 use Rattle.asn_names.specs.Meaning.{IsPlain}
 use Rattle.asn_rules.specs.Expression.{rule}
 use Rattle.asn_rules.specs.First.{first}
 use Rattle.asn_rules.specs.Runs.{Ending, ends, fails, ExactlyOne}
 use Rattle.asn_rules.specs.Valid.{Fails, IsDeeper, IsValid}
+use Rattle.asn_streams.specs.Sink.{Takes}
+use Rattle.asn_streams.specs.Stream.{StreamState}
+use Rattle.asn_streams.specs.Taking.{limit}
 use Rattle.asn_tool.specs.declared.ended.Ended.{Ended}
 use Rattle.asn_tool.specs.declared.status.Status.{Status}
 use Rattle.asn_tool.specs.declared.status.Status.TheVariants.{Clean, Warned, Matching, TooDeep, NotUtf8, TooLong, ReadFault, WriteFault, Usage, OutOfMemory}
-use Rattle.asn_tool.specs.Faults.{HasCause}
 use Rattle.asn_tool.specs.Headline.{IsListing, MeansWhatIsRead, Prints, SaysAlone, SaysPlace, Decides}
 use Rattle.asn_tool.specs.Lines.{depth_line}
-use Rattle.asn_tool.specs.Run.{IsTaken, IsTooLong, IsNoUtf8, IsTooDeep, IsUnmatched, IsValidText, NoTrees, HasTrees, AreKnown, OfTaken, Course, Delivered, Ends}
-use Rattle.asn_tool.specs.Sink.{Takes}
+use Rattle.asn_tool.specs.Run.{HasFailed, IsTaken, IsTooLong, IsNoUtf8, IsTooDeep, IsUnmatched, IsValidText, NoTrees, HasTrees, AreKnown, OfTaken, Course, Delivered, Ends}
 use Rattle.asn_tool.specs.Status.{line}
-use Rattle.asn_tool.specs.Taking.{limit}
 use Rattle.asn_tool.specs.Words.{depth_of}
 use Rattle.asn_tool.proofs.Plain.{reading_plain}
 
 -- the status of what was to be written, or that of a write that failed
-abbrev Came : Status → Status → Option (List ℕ) → List ℕ → Option (List ℕ) → ℕ → ℕ → Type 0
-Came due s before text after faults faults' = ((s ≡ due) × Takes before text after) ⊎ ((s ≡ WriteFault) × HasCause faults faults')
+abbrev Came : Status → List ℕ → StreamState → StreamState → Status → Type 0
+Came due text sink sink' s = ((s ≡ due) × (sink'.faults ≡ sink.faults) × Takes sink.bytes text sink'.bytes) ⊎ ((s ≡ WriteFault) × HasFailed sink sink')
 
-came : (due s : Status) (text : List ℕ) (before after : Option (List ℕ)) (faults faults' : ℕ) → Delivered due text before after faults faults' s → Came due s before text after faults faults'
-came due Clean text before after faults faults' d = inl d
-came due Warned text before after faults faults' d = inl d
-came due Matching text before after faults faults' d = inl d
-came due TooDeep text before after faults faults' d = inl d
-came due NotUtf8 text before after faults faults' d = inl d
-came due TooLong text before after faults faults' d = inl d
-came due ReadFault text before after faults faults' d = inl d
-came due WriteFault text before after faults faults' d = inr (refl, d.0)
-came due Usage text before after faults faults' d = inl d
-came due OutOfMemory text before after faults faults' d = inl d
+came : (due s : Status) (text : List ℕ) (sink sink' : StreamState) → Delivered due text sink sink' s → Came due text sink sink' s
+came due Clean text sink sink' d = inl d
+came due Warned text sink sink' d = inl d
+came due Matching text sink sink' d = inl d
+came due TooDeep text sink sink' d = inl d
+came due NotUtf8 text sink sink' d = inl d
+came due TooLong text sink sink' d = inl d
+came due ReadFault text sink sink' d = inl d
+came due WriteFault text sink sink' d = inr (refl, d.0)
+came due Usage text sink sink' d = inl d
+came due OutOfMemory text sink sink' d = inl d
 
 -- the linked answer of a text means what is read
 means : (text : List ℕ) (reading : List Module) (linked : Linked) → IsReading text reading → IsLinkedOf reading linked → MeansWhatIsRead reading linked.definitions
 means text reading linked reads links name d seen ty is clean free =
     let m = links.meaning name d seen ty is clean free in
-    let plain : IsPlain ty = reading_plain text reads.1 name d ty (ap (λ r. see (definitions_of r) name) (sym reads.3) ∙ seen) is in
+    let plain : IsPlain ty = reading_plain text reads.1 reading reads.3 name d ty seen is in
     (m.0, m.1, m.3 ∙ plain, m.2)
 
 -- ---- a text is judged in one way
@@ -134,25 +134,25 @@ module _ (depth : ℕ) (text : List ℕ) where
       by : (k' : Kind) → Is k' → StatusOf k' s
       by k' q = subst (λ x. StatusOf x s) (one_kind one k k' p q) is
 
-module _ (words : List (String Global)) (left left' : Option (List ℕ)) (reads reads' : ℕ) (written written' : Option (List ℕ)) (writes writes' : ℕ) (ended : Ended) (e : Ends words left left' reads reads' written written' writes writes' ended) where
+module _ (words : List (String Global)) (source source' sink sink' : StreamState) (ended : Ended) (e : Ends words source source' sink sink' ended) where
   abbrev Goes : Status → Type 0
-  Goes s = Course words left left' reads reads' s ended.reading ended.linked e.out
+  Goes s = Course words source source' s ended.reading ended.linked e.out
 
-  result : Came e.due ended.status written e.out written' writes writes'
-  result = came e.due ended.status e.out written written' writes writes' e.delivered
+  result : Came e.due e.out sink sink' ended.status
+  result = came e.due ended.status e.out sink sink' e.delivered
 
   -- the course under the status that is answered, where that is none of a write
-  went : (s : Status) → ended.status ≡ s → (s ≡ WriteFault → ⊥) → Goes s × Takes written e.out written'
+  went : (s : Status) → ended.status ≡ s → (s ≡ WriteFault → ⊥) → Goes s × Takes sink.bytes e.out sink'.bytes
   went s is no_write = go result
     where
-      go : Came e.due ended.status written e.out written' writes writes' → Goes s × Takes written e.out written'
+      go : Came e.due e.out sink sink' ended.status → Goes s × Takes sink.bytes e.out sink'.bytes
       go (inl d) =
           let due : e.due ≡ s = sym d.0 ∙ is in
-          (subst Goes due e.course, d.1)
+          (subst Goes due e.course, d.2)
       go (inr d) = absurd (no_write (sym is ∙ d.0))
 
-  pub usage : ended.status ≡ Usage → (depth_of words ≡ None) × (left' ≡ left)
-  usage is = let g = (went Usage is (λ e. cc)).0 in (g.1, g.2)
+  pub usage : ended.status ≡ Usage → depth_of words ≡ None
+  usage is = (went Usage is (λ e. cc)).0.1
 
   unknown : AreKnown words → depth_of words ≡ None → ⊥
   unknown known none = let both : ◌≡◌ {A = Option ℕ} (Some known.0) None = sym known.1 ∙ none in absurd cc
@@ -172,37 +172,68 @@ module _ (words : List (String Global)) (left left' : Option (List ℕ)) (reads 
       due Usage g = refl
       due OutOfMemory g = absurd (unknown g.1 none)
 
-      go : Came e.due ended.status written e.out written' writes writes' → (ended.status ≡ Usage) ⊎ (ended.status ≡ WriteFault)
+      go : Came e.due e.out sink sink' ended.status → (ended.status ≡ Usage) ⊎ (ended.status ≡ WriteFault)
       go (inl d) = inl (d.0 ∙ due e.due e.course)
       go (inr d) = inr d.0
 
-  pub read_fault : ended.status ≡ ReadFault → AreKnown words × HasCause reads reads'
+  pub read_fault : ended.status ≡ ReadFault → AreKnown words × HasFailed source source'
   read_fault is = let g = (went ReadFault is (λ e. cc)).0 in (g.1, g.2)
 
-  pub write_fault : ended.status ≡ WriteFault → HasCause writes writes'
+  pub write_fault : ended.status ≡ WriteFault → HasFailed sink sink'
   write_fault is = go result
     where
-      go : Came e.due ended.status written e.out written' writes writes' → HasCause writes writes'
+      go : Came e.due e.out sink sink' ended.status → HasFailed sink sink'
       go (inr d) = d.1
       go (inl d) = absurd (subst Goes (sym d.0 ∙ is) e.course)
 
-  pub too_long : ended.status ≡ TooLong → OfTaken words left left' (λ depth taken. IsTooLong taken)
+  -- a read failed under no other status
+  pub read_failed : source.faults < source'.faults → (ended.status ≡ ReadFault) ⊎ (ended.status ≡ WriteFault)
+  read_failed rose = go result
+    where
+      same : source'.faults ≡ source.faults → ⊥
+      same is = absurd (omega (arith, rose, is))
+
+      due : (s : Status) → Goes s → s ≡ ReadFault
+      due Clean g = absurd (same g.2.1.no_fault)
+      due Warned g = absurd (same g.2.1.no_fault)
+      due Matching g = absurd (same g.2.1.no_fault)
+      due TooDeep g = absurd (same g.2.1.no_fault)
+      due NotUtf8 g = absurd (same g.2.1.no_fault)
+      due TooLong g = absurd (same g.2.1.no_fault)
+      due ReadFault g = refl
+      due WriteFault g = absurd g
+      due Usage g = absurd (same (ap (λ s. s.faults) g.2))
+      due OutOfMemory g = absurd (same g.2)
+
+      go : Came e.due e.out sink sink' ended.status → (ended.status ≡ ReadFault) ⊎ (ended.status ≡ WriteFault)
+      go (inl d) = inl (d.0 ∙ due e.due e.course)
+      go (inr d) = inr d.0
+
+  -- a write failed under no other status
+  pub write_failed : sink.faults < sink'.faults → ended.status ≡ WriteFault
+  write_failed rose = go result
+    where
+      go : Came e.due e.out sink sink' ended.status → ended.status ≡ WriteFault
+      go (inl d) = absurd (omega (arith, rose, d.1))
+      go (inr d) = d.0
+
+  pub too_long : ended.status ≡ TooLong → OfTaken words source source' (λ depth taken. IsTooLong taken)
   too_long is = let g = (went TooLong is (λ e. cc)).0 in (g.0, g.1, (g.2.0, g.2.1, g.2.2.1))
 
-  pub not_utf8 : ended.status ≡ NotUtf8 → OfTaken words left left' (λ depth taken. IsNoUtf8 taken)
+  pub not_utf8 : ended.status ≡ NotUtf8 → OfTaken words source source' (λ depth taken. IsNoUtf8 taken)
   not_utf8 is = let g = (went NotUtf8 is (λ e. cc)).0 in (g.0, g.1, (g.2.0, g.2.1, g.2.2.1))
 
-  says : (out : List ℕ) → e.out ≡ out → Takes written e.out written' → NoTrees ended.reading ended.linked → SaysAlone out written written' ended
-  says out is takes none = record { said = subst (λ x. Takes written x written') is takes; no_trees = none }
+  says : (out : List ℕ) → e.out ≡ out → Takes sink.bytes e.out sink'.bytes → NoTrees ended.reading ended.linked → SaysAlone out sink sink' ended
+  says out is takes none = record { said = subst (λ x. Takes sink.bytes x sink'.bytes) is takes; no_trees = none }
 
-  pub too_deep : ended.status ≡ TooDeep → OfTaken words left left' (λ depth taken. IsTooDeep depth taken × SaysAlone (depth_line depth) written written' ended)
+  pub too_deep : ended.status ≡ TooDeep → OfTaken words source source' (λ depth taken. IsTooDeep depth taken × SaysAlone (depth_line depth) sink sink' ended)
   too_deep is =
       let w = went TooDeep is (λ e. cc) in
       let g = w.0 in
       let c = g.2.2 in
       (g.0, g.1, (g.2.0, g.2.1, (c.1, says (depth_line g.0) c.2 w.1 c.0)))
 
-  pub matching : ended.status ≡ Matching → OfTaken words left left' (λ depth taken. SaysPlace depth taken written written' ended)
+  pub matching : ended.status ≡ Matching → OfTaken words source source' (λ depth taken. SaysPlace depth taken sink sink' ended)
   matching is =
       let w = went Matching is (λ e. cc) in
       let g = w.0 in
@@ -210,7 +241,7 @@ module _ (words : List (String Global)) (left left' : Option (List ℕ)) (reads 
       let t = c.2 in
       (g.0, g.1, (g.2.0, g.2.1, record { unmatched = c.1; error = t.0; due = t.1; alone = says _ t.2 w.1 c.0 }))
 
-  prints : (s : Status) → ended.status ≡ s → (r : Option (List Module)) (l : Option Linked) → ended.reading ≡ r → ended.linked ≡ l → (depth : ℕ) (taken : List ℕ) → HasTrees depth taken s r l e.out → Takes written e.out written' → Prints depth taken written written' ended
+  prints : (s : Status) → ended.status ≡ s → (r : Option (List Module)) (l : Option Linked) → ended.reading ≡ r → ended.linked ≡ l → (depth : ℕ) (taken : List ℕ) → HasTrees depth taken s r l e.out → Takes sink.bytes e.out sink'.bytes → Prints depth taken sink sink' ended
   prints s is None l a b depth taken h t = absurd h
   prints s is (Some reading) None a b depth taken h t = absurd h
   prints s is (Some reading) (Some linked) a b depth taken h t =
@@ -220,14 +251,15 @@ module _ (words : List (String Global)) (left left' : Option (List ℕ)) (reads 
         hands_out = (a, b);
         valid = h.valid;
         reads = h.reads;
-        printed = subst (λ x. Takes written x written') h.listed t;
+        printed = subst (λ x. Takes sink.bytes x sink'.bytes) h.listed t;
+        headers = h.links.modules;
         definitions = h.links.definitions;
         warned = h.links.warnings;
         means = means taken reading linked h.reads h.links;
         status = is ∙ h.status_is;
       }
 
-  pub headline : IsListing ended.status → OfTaken words left left' (λ depth taken. Prints depth taken written written' ended)
+  pub headline : IsListing ended.status → OfTaken words source source' (λ depth taken. Prints depth taken sink sink' ended)
   headline (inl is) =
       let g = went Clean is (λ e. cc) in
       (g.0.0, g.0.1, (g.0.2.0, g.0.2.1, prints Clean is ended.reading ended.linked refl refl g.0.0 g.0.2.0 g.0.2.2 g.1))
@@ -240,19 +272,19 @@ module _ (words : List (String Global)) (left left' : Option (List ℕ)) (reads 
   trees_valid depth taken s (Some r) None h = absurd h
   trees_valid depth taken s (Some r) (Some l) h = h.valid
 
-  abbrev Answer : ℕ → Type 0
-  Answer depth = (ended.status ≡ OutOfMemory) ⊎ ((taken : List ℕ) × IsTaken left taken left' × Decides depth taken ended.status)
+  abbrev Settled : ℕ → Type 0
+  Settled depth = (ended.status ≡ OutOfMemory) ⊎ ((taken : List ℕ) × IsTaken source taken source' × Decides depth taken ended.status)
 
-  pub complete : ((t : List ℕ) → ExactlyOne first t (rule 190) 0) → (depth : ℕ) → depth_of words ≡ Some depth → (HasCause reads reads' → ⊥) → (HasCause writes writes' → ⊥) → Answer depth
+  pub complete : ((t : List ℕ) → ExactlyOne first t (rule 190) 0) → (depth : ℕ) → depth_of words ≡ Some depth → (HasFailed source source' → ⊥) → (HasFailed sink sink' → ⊥) → Settled depth
   complete one depth asked no_read no_write = go result
     where
       same : (d : ℕ) → depth_of words ≡ Some d → d ≡ depth
       same d is = let both : ◌≡◌ {A = Option ℕ} (Some d) (Some depth) = sym is ∙ asked in cc
 
-      decides : (k : Kind) (d : ℕ) → depth_of words ≡ Some d → (taken : List ℕ) → IsTaken left taken left' → Is d taken k → StatusOf d taken k ended.status → Answer depth
+      decides : (k : Kind) (d : ℕ) → depth_of words ≡ Some d → (taken : List ℕ) → IsTaken source taken source' → Is d taken k → StatusOf d taken k ended.status → Settled depth
       decides k d is taken is_taken p s = inr (taken, is_taken, subst (λ x. Decides x taken ended.status) (same d is) (decided d taken one k ended.status p s))
 
-      by : (s : Status) → ended.status ≡ s → Goes s → Answer depth
+      by : (s : Status) → ended.status ≡ s → Goes s → Settled depth
       by Clean is g = decides valid g.0 g.1 g.2.0 g.2.1 (trees_valid g.0 g.2.0 Clean ended.reading ended.linked g.2.2) (inl is)
       by Warned is g = decides valid g.0 g.1 g.2.0 g.2.1 (trees_valid g.0 g.2.0 Warned ended.reading ended.linked g.2.2) (inr is)
       by Matching is g = decides unmatched g.0 g.1 g.2.0 g.2.1 g.2.2.1 is
@@ -264,11 +296,11 @@ module _ (words : List (String Global)) (left left' : Option (List ℕ)) (reads 
       by Usage is g = absurd (unknown (depth, asked) g.1)
       by OutOfMemory is g = inl is
 
-      go : Came e.due ended.status written e.out written' writes writes' → Answer depth
+      go : Came e.due e.out sink sink' ended.status → Settled depth
       go (inl d) = by e.due d.0 e.course
       go (inr d) = absurd (no_write d.1)
 
-  pub one_line : (s : Status) → ended.status ≡ s → IfSome (line s) (λ text. SaysAlone text written written' ended)
+  pub one_line : (s : Status) → ended.status ≡ s → IfSome (line s) (λ text. SaysAlone text sink sink' ended)
   one_line Clean is = tt
   one_line Warned is = tt
   one_line Matching is = tt
@@ -278,4 +310,4 @@ module _ (words : List (String Global)) (left left' : Option (List ℕ)) (reads 
   one_line ReadFault is = let g = went ReadFault is (λ e. cc) in says _ g.0.4 g.1 g.0.0
   one_line WriteFault is = tt
   one_line Usage is = let g = went Usage is (λ e. cc) in says _ g.0.3 g.1 g.0.0
-  one_line OutOfMemory is = let g = went OutOfMemory is (λ e. cc) in says _ g.0.3 g.1 g.0.0
+  one_line OutOfMemory is = let g = went OutOfMemory is (λ e. cc) in says _ g.0.4 g.1 g.0.0

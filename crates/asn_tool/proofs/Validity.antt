@@ -2,11 +2,11 @@
 use Rattle.std.proofs.Common.{ℕ, ◌<◌, ◌≤◌, List, length, refl, sym, subst, inl, inr, arith}
 use Rattle.asn_modules.specs.Whole.{IsMatchingError}
 use Rattle.asn_text.specs.declared.report.LexerError.{LexerError}
-use Rattle.asn_tool.specs.declared.judging.Due.{Due}
+use Rattle.asn_tool.specs.declared.judging.Output.{Output}
 use Rattle.asn_tool.specs.declared.status.Status.TheVariants.{Matching}
-use Rattle.asn_tool.specs.Due.{IsDue, IsLine}
+use Rattle.asn_tool.specs.inner.Output.{IsOutputOf, IsLine}
 use Rattle.asn_tool.specs.Run.{IsTooLong, IsUnmatched, place_line}
-use Rattle.asn_tool.specs.Taking.{limit}
+use Rattle.asn_streams.specs.Taking.{limit}
 
 pub too_long : (text : List ℕ) → 2097152 < length text → IsTooLong text
 unfolding limit
@@ -17,6 +17,6 @@ unfolding limit
 short_enough text le = omega arith
 
 -- a text that does not match comes to the line of its place, or to want of memory
-pub unmatched_due : (depth : ℕ) (text : List ℕ) (error : LexerError) (due : Due) → IsUnmatched depth text → IsMatchingError text depth error → IsLine Matching (place_line error) due → IsDue depth text due
-unmatched_due depth text error due u m (inl e) = subst (IsDue depth text) (sym e) ((refl, refl), u, (error, m, refl))
-unmatched_due depth text error due u m (inr e) = subst (IsDue depth text) (sym e) ((refl, refl), refl)
+pub unmatched_output : (depth : ℕ) (text : List ℕ) (error : LexerError) (output : Output) → IsUnmatched depth text → IsMatchingError text depth error → IsLine Matching (place_line error) output → IsOutputOf depth text output
+unmatched_output depth text error due u m (inl e) = subst (IsOutputOf depth text) (sym e) ((refl, refl), u, (error, m, refl))
+unmatched_output depth text error due u m (inr e) = subst (IsOutputOf depth text) (sym e) ((refl, refl), refl)

@@ -1,5 +1,5 @@
 -- What a run promises its user.
-use Rattle.std.specs.Prelude.{◌≡◌, ◌⊎◌, ℕ, List, Option, Some, None, map}
+use Rattle.std.specs.Prelude.{◌≡◌, ◌⊎◌, ℕ, List, Some, None, map}
 use Rattle.asn_check.specs.declared.linked.Linked.{Linked}
 use Rattle.asn_check.specs.Listing.{listing_of}
 use Rattle.asn_check.specs.Meaning.{parameters_of}
@@ -9,6 +9,8 @@ use Rattle.asn_names.specs.Definitions.{Definitions, Module, definitions_of, see
 use Rattle.asn_names.specs.Faults.{IsClean}
 use Rattle.asn_names.specs.Kept.{given_definitions}
 use Rattle.asn_names.specs.Meaning.{AcceptsAlike, IsPlain}
+use Rattle.asn_streams.specs.Sink.{Takes}
+use Rattle.asn_streams.specs.Stream.{StreamState}
 use Rattle.asn_text.specs.declared.report.LexerError.{LexerError}
 use Rattle.asn_tree.specs.declared.definitions.ToplevelDefinition.{ToplevelDefinition}
 use Rattle.asn_tree.specs.declared.types.ASN1Type.{ASN1Type}
@@ -16,7 +18,6 @@ use Rattle.asn_tool.specs.declared.ended.Ended.{Ended}
 use Rattle.asn_tool.specs.declared.status.Status.{Status}
 use Rattle.asn_tool.specs.declared.status.Status.TheVariants.{Clean, Warned, Matching, TooDeep, NotUtf8, TooLong}
 use Rattle.asn_tool.specs.Run.{IsNoUtf8, IsTooDeep, IsTooLong, IsUnmatched, IsValidText, NoTrees, place_line, status_of}
-use Rattle.asn_tool.specs.Sink.{Takes}
 
 -- a listing was written
 abbrev pub IsListing : Status → Type 0
@@ -33,7 +34,7 @@ MeansWhatIsRead reading linked =
     × AcceptsAlike (definitions_of reading) linked ty linked_ty
 
 -- The listing of one linked answer of the text is written, and the answer means what the text says.
-pub record Prints (depth : ℕ) (text : List ℕ) (written written' : Option (List ℕ)) (ended : Ended) : Type 0 where
+pub record Prints (depth : ℕ) (text : List ℕ) (sink sink' : StreamState) (ended : Ended) : Type 0 where
   pub reading : List Module
   pub linked : Linked
   -- the trees of this very run
@@ -41,7 +42,9 @@ pub record Prints (depth : ℕ) (text : List ℕ) (written written' : Option (Li
   pub valid : IsValidText depth text
   pub reads : IsReading text reading
   -- the sink holds what it held, and then the listing
-  pub printed : Takes written (listing_of linked) written'
+  pub printed : Takes sink.bytes (listing_of linked) sink'.bytes
+  -- the headers of the modules, in order
+  pub headers : linked.modules ≡ map (λ m. m.0) reading
   -- one definition for each name, the last of the name, in byte order of names, as read but for numbers and environment
   pub definitions : IsStanding (given_definitions reading) linked.definitions
   -- each definition is warned exactly for its faults, and each name that is defined more than once for that
@@ -50,17 +53,17 @@ pub record Prints (depth : ℕ) (text : List ℕ) (written written' : Option (Li
   pub status : ended.status ≡ status_of linked
 
 -- The sink holds what it held, and then a line, and no trees are handed out.
-pub record SaysAlone (out : List ℕ) (written written' : Option (List ℕ)) (ended : Ended) : Type 0 where
-  pub said : Takes written out written'
+pub record SaysAlone (out : List ℕ) (sink sink' : StreamState) (ended : Ended) : Type 0 where
+  pub said : Takes sink.bytes out sink'.bytes
   pub no_trees : NoTrees ended.reading ended.linked
 
 -- The text does not match, and the line tells the place where a part of a module is due.
-pub record SaysPlace (depth : ℕ) (text : List ℕ) (written written' : Option (List ℕ)) (ended : Ended) : Type 0 where
+pub record SaysPlace (depth : ℕ) (text : List ℕ) (sink sink' : StreamState) (ended : Ended) : Type 0 where
   pub unmatched : IsUnmatched depth text
   pub error : LexerError
   -- the first part of a module that does not stand, its place by line and column, its context and the reason
   pub due : IsMatchingError text depth error
-  pub alone : SaysAlone (place_line error) written written' ended
+  pub alone : SaysAlone (place_line error) sink sink' ended
 
 -- What the text says decides the status, in this order: too long, no UTF-8, too deep, unmatched, and else a listing.
 pub record Decides (depth : ℕ) (text : List ℕ) (status : Status) : Type 0 where

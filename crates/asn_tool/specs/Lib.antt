@@ -1,14 +1,6 @@
-pub mod Faults
-pub mod Giving
 pub mod Lines
-pub mod Listed
-pub mod Sink
-pub mod Source
-pub mod Standard
 pub mod Status
-pub mod Sure
-pub mod Taking
 pub mod Words
 pub mod Run
-pub mod Due
+pub mod inner
 pub mod Headline

@@ -10,28 +10,34 @@ use Rattle.asn_modules.specs.Whole.{IsMatchingError, IsReading, report_of}
 use Rattle.asn_names.specs.Definitions.{Module}
 use Rattle.asn_rules.specs.First.{first}
 use Rattle.asn_rules.specs.Valid.{Fails, IsDeeper, IsValid}
+use Rattle.asn_streams.specs.Faults.{HasCause}
+use Rattle.asn_streams.specs.Giving.{TakesFront}
+use Rattle.asn_streams.specs.Sink.{Takes}
+use Rattle.asn_streams.specs.Source.{Gives}
+use Rattle.asn_streams.specs.Stream.{StreamState}
+use Rattle.asn_streams.specs.Taking.{limit, LosesFront}
 use Rattle.asn_text.specs.declared.report.LexerError.{LexerError}
-use Rattle.asn_tree.specs.declared.errors.LinkerError.{LinkerError}
+use Rattle.asn_faults.specs.declared.errors.LinkerError.{LinkerError}
 use Rattle.asn_tool.specs.declared.ended.Ended.{Ended}
 use Rattle.asn_tool.specs.declared.status.Status.{Status}
 use Rattle.asn_tool.specs.declared.status.Status.TheVariants.{Clean, Warned, Matching, TooDeep, NotUtf8, TooLong, ReadFault, WriteFault, Usage, OutOfMemory}
-use Rattle.asn_tool.specs.Faults.{HasCause}
-use Rattle.asn_tool.specs.Giving.{TakesFront}
 use Rattle.asn_tool.specs.Lines.{depth_line, matching_line}
-use Rattle.asn_tool.specs.Sink.{Takes}
-use Rattle.asn_tool.specs.Source.{Gives}
 use Rattle.asn_tool.specs.Status.{line}
-use Rattle.asn_tool.specs.Taking.{limit, LosesFront}
 use Rattle.asn_tool.specs.Words.{depth_of}
 
 -- ---- the bytes
 
--- The bytes were taken from a source: all that it had left, or the first of them up to the limit.
-pub record IsTaken (before : Option (List ℕ)) (taken : List ℕ) (after : Option (List ℕ)) : Type 0 where
-  pub given : Gives before taken after
+-- A read or a write failed: the count of faults rose, or stands at its last value.
+abbrev pub HasFailed : StreamState → StreamState → Type 0
+HasFailed before after = HasCause before.faults after.faults
+
+-- The bytes were taken from a source, and no read failed: all that it had left, or the first of them up to the limit.
+pub record IsTaken (before : StreamState) (taken : List ℕ) (after : StreamState) : Type 0 where
+  pub given : Gives before.bytes taken after.bytes
   pub bounded : length taken ≤ limit
-  pub end : length taken < limit → IsAtEnd after
-  pub front : IfSome before (λ all. taken ≡ take limit all)
+  pub end : length taken < limit → IsAtEnd after.bytes
+  pub front : IfSome before.bytes (λ all. taken ≡ take limit all)
+  pub no_fault : after.faults ≡ before.faults
 
 -- no text has so many bytes
 abbrev pub IsTooLong : List ℕ → Type 0
@@ -75,7 +81,7 @@ abbrev pub NoTrees : Option (List Module) → Option Linked → Type 0
 NoTrees reading linked = (reading ≡ None) × (linked ≡ None)
 
 -- The trees of a text: its reading, and the linked answer of that reading, whose listing is to be written.
-pub record Answers (depth : ℕ) (text : List ℕ) (status : Status) (reading : List Module) (linked : Linked) (out : List ℕ) : Type 0 where
+pub record ListsText (depth : ℕ) (text : List ℕ) (status : Status) (reading : List Module) (linked : Linked) (out : List ℕ) : Type 0 where
   pub valid : IsValidText depth text
   pub reads : IsReading text reading
   pub links : IsLinkedOf reading linked
@@ -83,7 +89,7 @@ pub record Answers (depth : ℕ) (text : List ℕ) (status : Status) (reading : 
   pub listed : out ≡ listing_of linked
 
 abbrev pub HasTrees : ℕ → List ℕ → Status → Option (List Module) → Option Linked → List ℕ → Type 0
-HasTrees depth text status (Some reading) (Some linked) out = Answers depth text status reading linked out
+HasTrees depth text status (Some reading) (Some linked) out = ListsText depth text status reading linked out
 HasTrees depth text status (Some reading) None out = ⊥
 HasTrees depth text status None linked out = ⊥
 
@@ -113,15 +119,15 @@ Comes depth text OutOfMemory reading linked out = NoTrees reading linked × (out
 Comes depth text _ reading linked out = ⊥
 
 -- the words ask for a depth, bytes were taken, and this holds of them
-abbrev pub OfTaken : List (String Global) → Option (List ℕ) → Option (List ℕ) → (ℕ → List ℕ → Type 0) → Type 0
+abbrev pub OfTaken : List (String Global) → StreamState → StreamState → (ℕ → List ℕ → Type 0) → Type 0
 OfTaken words before after holds = (depth : ℕ) × (depth_of words ≡ Some depth) × ((taken : List ℕ) × IsTaken before taken after × holds depth taken)
 
 -- the words ask for some depth
 abbrev pub AreKnown : List (String Global) → Type 0
 AreKnown words = (depth : ℕ) × (depth_of words ≡ Some depth)
 
--- How a run comes to each status of what is to be written.
-module _ (words : List (String Global)) (before after : Option (List ℕ)) (faults faults' : ℕ) where
+-- How a run comes to each status of what is to be written. No read failed but under ReadFault.
+module _ (words : List (String Global)) (before after : StreamState) where
   abbrev pub Judges : Status → Option (List Module) → Option Linked → List ℕ → Type 0
   Judges due reading linked out = OfTaken words before after (λ depth taken. Comes depth taken due reading linked out)
 
@@ -132,20 +138,25 @@ module _ (words : List (String Global)) (before after : Option (List ℕ)) (faul
   Course TooDeep reading linked out = Judges TooDeep reading linked out
   Course NotUtf8 reading linked out = Judges NotUtf8 reading linked out
   Course TooLong reading linked out = Judges TooLong reading linked out
-  Course ReadFault reading linked out = NoTrees reading linked × AreKnown words × HasCause faults faults' × LosesFront limit before after × (out ≡ or_nothing (line ReadFault))
+  Course ReadFault reading linked out = NoTrees reading linked × AreKnown words × HasFailed before after × LosesFront limit before.bytes after.bytes × (out ≡ or_nothing (line ReadFault))
   Course Usage reading linked out = NoTrees reading linked × (depth_of words ≡ None) × (after ≡ before) × (out ≡ or_nothing (line Usage))
-  Course OutOfMemory reading linked out = NoTrees reading linked × AreKnown words × LosesFront limit before after × (out ≡ or_nothing (line OutOfMemory))
+  Course OutOfMemory reading linked out = NoTrees reading linked × AreKnown words × (after.faults ≡ before.faults) × LosesFront limit before.bytes after.bytes × (out ≡ or_nothing (line OutOfMemory))
   Course WriteFault reading linked out = ⊥
 
--- How what is to be written under a status reaches the sink, and the status that is answered.
-abbrev pub Delivered : Status → List ℕ → Option (List ℕ) → Option (List ℕ) → ℕ → ℕ → Status → Type 0
-Delivered due text before after faults faults' WriteFault = HasCause faults faults' × TakesFront before text after
-Delivered due text before after faults faults' status = (status ≡ due) × Takes before text after
+-- How what is to be written under a status reaches the sink, and the status that is answered. No write failed but under
+-- WriteFault.
+abbrev pub Delivered : Status → List ℕ → StreamState → StreamState → Status → Type 0
+Delivered due text before after WriteFault = HasFailed before after × TakesFront before.bytes text after.bytes
+Delivered due text before after status = (status ≡ due) × (after.faults ≡ before.faults) × Takes before.bytes text after.bytes
 
--- The whole of a run.
-pub record Ends (words : List (String Global)) (left left' : Option (List ℕ)) (reads reads' : ℕ) (written written' : Option (List ℕ)) (writes writes' : ℕ) (ended : Ended) : Type 0 where
+-- The whole of a run: its words, the source before and after, the sink before and after, and what the run answers.
+pub record Ends (words : List (String Global)) (source source' sink sink' : StreamState) (ended : Ended) : Type 0 where
   -- the status of what was to be written, and the bytes of it
   pub due : Status
   pub out : List ℕ
-  pub course : Course words left left' reads reads' due ended.reading ended.linked out
-  pub delivered : Delivered due out written written' writes writes' ended.status
+  pub course : Course words source source' due ended.reading ended.linked out
+  pub delivered : Delivered due out sink sink' ended.status
+
+-- The answer of a run that found no memory for its words: the line of that status, or a failed write.
+abbrev pub EndsWithoutWords : StreamState → StreamState → Status → Type 0
+EndsWithoutWords sink sink' status = Delivered OutOfMemory (or_nothing (line OutOfMemory)) sink sink' status

@@ -1,10 +1,10 @@
 //! From the bytes of a text to what is to be written: the status, the trees and the listing or the line.
 
 ghost use Rattle.asn_modules.specs.Whole.{report_of};
-ghost use Rattle.asn_tool.specs.Due.{an_error, IsDue, IsLine, Links};
+ghost use Rattle.asn_tool.specs.inner.Output.{an_error, IsLine, IsOutputOf, IsOutputOfReading};
 ghost use Rattle.asn_tool.specs.Lines.{depth_line, matching_line};
 ghost use Rattle.asn_tool.specs.Run.{place_line, status_of};
-ghost use Rattle.asn_tool.specs.Taking.{limit};
+ghost use Rattle.asn_streams.specs.Taking.{limit};
 ghost use Rattle.asn_tool.specs.declared.status.Status.TheVariants as the;
 ghost use Rattle.std.specs.Prelude.{◌≡◌, ◌<◌, length};
 
@@ -23,7 +23,7 @@ pub const LONGEST: usize = 2_097_152;
 
 /// What is to be written, with the status and the trees that it comes of.
 #[derive(Drop)]
-pub(crate) struct Due {
+pub(crate) struct Output {
     pub(crate) status: Status,
     pub(crate) reading: Option<Reading>,
     pub(crate) linked: Option<Linked>,
@@ -32,10 +32,10 @@ pub(crate) struct Due {
 }
 
 /// An error line is to be written, that of the status.
-pub(crate) fn error(status: Status) -> Due
+pub(crate) fn error(status: Status) -> Output
     ensures { result ≡ an_error status }
 {
-    Due {
+    Output {
         status,
         reading: None,
         linked: None,
@@ -44,12 +44,12 @@ pub(crate) fn error(status: Status) -> Due
 }
 
 /// The line that tells the place where a text does not match.
-fn unmatched(alloc: Global, error_told: &LexerError) -> Due
+fn unmatched(alloc: Global, error_told: &LexerError) -> Output
     ensures { IsLine the.Matching (place_line error_told.now) result }
 {
     let LexerErrorType::MatchingError(report) = &error_told.kind;
     match matching_line(alloc, report.line, report.column) {
-        Ok(line) => Due {
+        Ok(line) => Output {
             status: Status::Matching,
             reading: None,
             linked: None,
@@ -60,11 +60,11 @@ fn unmatched(alloc: Global, error_told: &LexerError) -> Due
 }
 
 /// The line that tells the depth that a text goes past.
-fn too_deep(alloc: Global, depth: usize) -> Due
+fn too_deep(alloc: Global, depth: usize) -> Output
     ensures { IsLine the.TooDeep (depth_line depth) result }
 {
     match depth_line(alloc, depth) {
-        Ok(line) => Due {
+        Ok(line) => Output {
             status: Status::TooDeep,
             reading: None,
             linked: None,
@@ -85,12 +85,12 @@ fn status_of_linked(linked: &Linked) -> Status
 }
 
 /// Links a reading, and lists the answer.
-fn link(alloc: Global, reading: Reading) -> Due
-    ensures { Links reading result }
+fn link(alloc: Global, reading: Reading) -> Output
+    ensures { IsOutputOfReading reading result }
 {
     match link_reading(alloc, &reading) {
         Ok(linked) => match listing(alloc, &linked) {
-            Ok(text) => Due {
+            Ok(text) => Output {
                 status: status_of_linked(&linked),
                 reading: Some(reading),
                 linked: Some(linked),
@@ -103,9 +103,9 @@ fn link(alloc: Global, reading: Reading) -> Due
 }
 
 /// Reads a text that is UTF-8, and links it.
-fn read(alloc: Global, source: &str, depth: usize) -> Due
+fn read(alloc: Global, source: &str, depth: usize) -> Output
     requires { length source.now < limit }
-    ensures { IsDue depth source.now result }
+    ensures { IsOutputOf depth source.now result }
 {
     match asn_spec(alloc, source, depth) {
         Ok(reading) => link(alloc, reading),
@@ -116,8 +116,8 @@ fn read(alloc: Global, source: &str, depth: usize) -> Due
 }
 
 /// What the bytes of a text come to, judged by their number, then as UTF-8, then by the grammar within the depth.
-pub(crate) fn judge(alloc: Global, bytes: &[u8], depth: usize) -> Due
-    ensures { IsDue depth bytes.now result }
+pub(crate) fn judge(alloc: Global, bytes: &[u8], depth: usize) -> Output
+    ensures { IsOutputOf depth bytes.now result }
 {
     if bytes.len() > LONGEST {
         return error(Status::TooLong);

@@ -1,6 +1,2 @@
-pub mod Backs
-pub mod Misses
-pub mod Moves
-pub mod Numerals
-pub mod Parts
-pub mod Sorts
+pub mod ComponentsInOrder
+pub mod EqualByParts

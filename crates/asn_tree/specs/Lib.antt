@@ -1,16 +1,11 @@
 pub mod Calls
-pub mod Equality
-pub mod EqualityErrors
 pub mod Folds
+pub mod Inductions
 pub mod Layers
 pub mod Listing
-pub mod Making
 pub mod MakingComponents
 pub mod MakingConstraints
-pub mod MakingHeaders
 pub mod MakingObjects
 pub mod MakingTypes
 pub mod Passes
-pub mod Plain
-pub mod Settings
 pub mod Tagging

@@ -8,13 +8,14 @@ use Rattle.asn_tree.specs.declared.constraints.ElementOrSetOperation.{ElementOrS
 use Rattle.asn_tree.specs.declared.constraints.SubtypeElement.{SubtypeElement, SubtypeElement-F}
 use Rattle.asn_tree.specs.declared.definitions.ToplevelDefinition.{ToplevelDefinition}
 use Rattle.asn_tree.specs.declared.definitions.ToplevelDefinition.TheVariants.{TypeDef, Value, Information}
-use Rattle.asn_tree.specs.declared.errors.LinkerErrorType.{LinkerErrorType}
-use Rattle.asn_tree.specs.declared.errors.LinkerErrorType.TheVariants.{MissingDependency, InvalidConstraintsError, Unknown, Cycle, Argument, Duplicate}
+use Rattle.asn_faults.specs.declared.errors.LinkerErrorType.{LinkerErrorType}
+use Rattle.asn_faults.specs.declared.errors.LinkerErrorType.TheVariants.{MissingDependency, InvalidConstraintsError, Unknown, Cycle, Argument, Duplicate}
 use Rattle.asn_tree.specs.declared.types.ASN1Type.{ASN1Type, ASN1Type-F}
 use Rattle.asn_tree.specs.declared.types.SequenceOrSet.{SequenceOrSet, SequenceOrSet-F}
 use Rattle.asn_tree.specs.declared.types.SequenceOrSetMember.{SequenceOrSetMember, SequenceOrSetMember-F}
 use Rattle.asn_tree.specs.declared.values.ASN1Value.{ASN1Value, ASN1Value-F}
 use Rattle.asn_tree.specs.Folds.{Algebra, constant, of_constraint, of_set, of_element, of_type, of_value, of_struct, of_member}
+use Rattle.asn_tree.specs.Layers.{ConstraintOf, SetOf, ElementOf, TypeOf, ValueOf, StructOf, MemberOf}
 
 abbrev pub Letters : Type 0
 Letters = List ℕ
@@ -28,7 +29,7 @@ abbrev pub separated : Bool → List Letters → Letters
 separated first [] = []
 separated first (x ∷ xs) = lead first ++ x ++ separated false xs
 
-abbrev pub value_line : ASN1Value-F Letters Letters Letters Letters Letters Letters Letters Letters Letters Letters Letters Letters Letters Letters Letters Letters Letters → Letters
+abbrev pub value_line : ValueOf Letters → Letters
 value_line (ASN1Value-F.ASN1Value::Integer i) = signed_decimal i
 value_line _ = []
 
@@ -40,17 +41,17 @@ end_line word (Some v) = v
 abbrev pub when : Bool → Letters → Letters
 when b text = if b then text else []
 
-abbrev pub element_line : SubtypeElement-F Letters Letters Letters Letters Letters Letters Letters Letters Letters Letters Letters Letters Letters Letters Letters Letters Letters → Letters
+abbrev pub element_line : ElementOf Letters → Letters
 element_line (SubtypeElement-F.ValueRange min max min_open max_open extensible) =
     end_line (codes "MIN") min ++ when min_open (codes "<") ++ codes ".." ++ when max_open (codes "<") ++ end_line (codes "MAX") max ++ when extensible (codes ", ...")
 element_line _ = []
 
-abbrev pub set_line : ElementOrSetOperation-F Letters Letters Letters Letters Letters Letters Letters Letters Letters Letters Letters Letters Letters Letters Letters Letters Letters → Letters
+abbrev pub set_line : SetOf Letters → Letters
 set_line (ElementOrSetOperation-F.Element e) = e
 set_line _ = []
 
 -- a constraint with the space before it
-abbrev pub constraint_line : Constraint-F Letters Letters Letters Letters Letters Letters Letters Letters Letters Letters Letters Letters Letters Letters Letters Letters Letters → Letters
+abbrev pub constraint_line : ConstraintOf Letters → Letters
 constraint_line (Constraint-F.SubtypeConstraint s) = codes " (" ++ s.set ++ when s.extensible (codes ", ...") ++ codes ")"
 constraint_line _ = []
 
@@ -65,17 +66,17 @@ braces [] = codes " {}"
 braces (x ∷ xs) = separated true (x ∷ xs) ++ codes " }"
 
 -- one level of a type, where the parts have these texts
-abbrev pub type_line : ASN1Type-F Letters Letters Letters Letters Letters Letters Letters Letters Letters Letters Letters Letters Letters Letters Letters Letters Letters → Letters
+abbrev pub type_line : TypeOf Letters → Letters
 type_line (ASN1Type-F.ASN1Type::Boolean b) = codes "BOOLEAN" ++ joined b.constraints
 type_line (ASN1Type-F.ASN1Type::Integer i) = codes "INTEGER" ++ joined i.constraints
 type_line (ASN1Type-F.Sequence s) = codes "SEQUENCE" ++ s
 type_line (ASN1Type-F.ElsewhereDeclaredType r) = r.identifier ++ joined r.constraints
 type_line _ = []
 
-abbrev pub struct_line : SequenceOrSet-F Letters Letters Letters Letters Letters Letters Letters Letters Letters Letters Letters Letters Letters Letters Letters Letters Letters → Letters
+abbrev pub struct_line : StructOf Letters → Letters
 struct_line s = braces s.members ++ joined s.constraints
 
-abbrev pub member_line : SequenceOrSetMember-F Letters Letters Letters Letters Letters Letters Letters Letters Letters Letters Letters Letters Letters Letters Letters Letters Letters → Letters
+abbrev pub member_line : MemberOf Letters → Letters
 member_line m = m.name ++ codes " " ++ m.ty ++ joined m.constraints
 
 abbrev pub lines : Algebra Letters

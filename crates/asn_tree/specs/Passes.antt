@@ -1,43 +1,28 @@
--- Rewriting of trees from their parts upwards: one step for each type of tree, over the rewritten parts.
+-- Rewriting of trees from their parts upwards: a reading that gives of each tree a tree of its type.
 use Rattle.std.specs.Prelude.{◌≡◌}
-use Rattle.asn_tree.specs.declared.constraints.Constraint.{Constraint, out-Constraint, roll-Constraint, map-Constraint, fold-Constraint, fold_out-Constraint}
-use Rattle.asn_tree.specs.declared.constraints.ContentConstraint.{ContentConstraint, out-ContentConstraint, roll-ContentConstraint, map-ContentConstraint, fold-ContentConstraint, fold_out-ContentConstraint}
-use Rattle.asn_tree.specs.declared.constraints.ElementOrSetOperation.{ElementOrSetOperation, out-ElementOrSetOperation, roll-ElementOrSetOperation, map-ElementOrSetOperation, fold-ElementOrSetOperation, fold_out-ElementOrSetOperation}
-use Rattle.asn_tree.specs.declared.constraints.Parameter.{Parameter, out-Parameter, roll-Parameter, map-Parameter, fold-Parameter, fold_out-Parameter}
-use Rattle.asn_tree.specs.declared.constraints.SubtypeElement.{SubtypeElement, out-SubtypeElement, roll-SubtypeElement, map-SubtypeElement, fold-SubtypeElement, fold_out-SubtypeElement}
-use Rattle.asn_tree.specs.declared.objects.InformationObjectField.{InformationObjectField, out-InformationObjectField, roll-InformationObjectField, map-InformationObjectField, fold-InformationObjectField, fold_out-InformationObjectField}
-use Rattle.asn_tree.specs.declared.objects.InformationObjectFields.{InformationObjectFields, out-InformationObjectFields, roll-InformationObjectFields, map-InformationObjectFields, fold-InformationObjectFields, fold_out-InformationObjectFields}
-use Rattle.asn_tree.specs.declared.objects.SyntaxApplication.{SyntaxApplication, out-SyntaxApplication, roll-SyntaxApplication, map-SyntaxApplication, fold-SyntaxApplication, fold_out-SyntaxApplication}
-use Rattle.asn_tree.specs.declared.types.ASN1Type.{ASN1Type, out-ASN1Type, roll-ASN1Type, map-ASN1Type, fold-ASN1Type, fold_out-ASN1Type}
-use Rattle.asn_tree.specs.declared.values.ASN1Value.{ASN1Value, out-ASN1Value, roll-ASN1Value, map-ASN1Value, fold-ASN1Value, fold_out-ASN1Value}
-use Rattle.asn_tree.specs.declared.constraints.SetOperation.{SetOperation, out-SetOperation, roll-SetOperation, map-SetOperation, fold-SetOperation, fold_out-SetOperation}
-use Rattle.asn_tree.specs.declared.types.Choice.{Choice, out-Choice, roll-Choice, map-Choice, fold-Choice, fold_out-Choice}
-use Rattle.asn_tree.specs.declared.types.ChoiceOption.{ChoiceOption, out-ChoiceOption, roll-ChoiceOption, map-ChoiceOption, fold-ChoiceOption, fold_out-ChoiceOption}
-use Rattle.asn_tree.specs.declared.types.SequenceOrSet.{SequenceOrSet, out-SequenceOrSet, roll-SequenceOrSet, map-SequenceOrSet, fold-SequenceOrSet, fold_out-SequenceOrSet}
-use Rattle.asn_tree.specs.declared.types.SequenceOrSetMember.{SequenceOrSetMember, out-SequenceOrSetMember, roll-SequenceOrSetMember, map-SequenceOrSetMember, fold-SequenceOrSetMember, fold_out-SequenceOrSetMember}
-use Rattle.asn_tree.specs.declared.types.SequenceOrSetOf.{SequenceOrSetOf, out-SequenceOrSetOf, roll-SequenceOrSetOf, map-SequenceOrSetOf, fold-SequenceOrSetOf, fold_out-SequenceOrSetOf}
-use Rattle.asn_tree.specs.declared.values.LinkedField.{LinkedField, out-LinkedField, roll-LinkedField, map-LinkedField, fold-LinkedField, fold_out-LinkedField}
-use Rattle.asn_tree.specs.Layers.{ConstraintLayer, ContentLayer, SetLayer, ParameterLayer, ElementLayer, FieldLayer, FieldsLayer, ItemLayer, TypeLayer, ValueLayer, OperationLayer, ChoiceLayer, OptionLayer, StructLayer, MemberLayer, ListLayer, LinkedLayer}
+use Rattle.asn_tree.specs.declared.constraints.Constraint.{Constraint, out-Constraint, roll-Constraint}
+use Rattle.asn_tree.specs.declared.constraints.ContentConstraint.{ContentConstraint, roll-ContentConstraint}
+use Rattle.asn_tree.specs.declared.constraints.ElementOrSetOperation.{ElementOrSetOperation, out-ElementOrSetOperation, roll-ElementOrSetOperation}
+use Rattle.asn_tree.specs.declared.constraints.Parameter.{Parameter, out-Parameter, roll-Parameter}
+use Rattle.asn_tree.specs.declared.constraints.SubtypeElement.{SubtypeElement, out-SubtypeElement, roll-SubtypeElement}
+use Rattle.asn_tree.specs.declared.objects.InformationObjectField.{InformationObjectField, out-InformationObjectField, roll-InformationObjectField}
+use Rattle.asn_tree.specs.declared.objects.InformationObjectFields.{InformationObjectFields, out-InformationObjectFields, roll-InformationObjectFields}
+use Rattle.asn_tree.specs.declared.objects.SyntaxApplication.{SyntaxApplication, out-SyntaxApplication, roll-SyntaxApplication}
+use Rattle.asn_tree.specs.declared.types.ASN1Type.{ASN1Type, out-ASN1Type, roll-ASN1Type}
+use Rattle.asn_tree.specs.declared.values.ASN1Value.{ASN1Value, out-ASN1Value, roll-ASN1Value}
+use Rattle.asn_tree.specs.declared.constraints.SetOperation.{SetOperation, out-SetOperation, roll-SetOperation}
+use Rattle.asn_tree.specs.declared.types.Choice.{Choice, out-Choice, roll-Choice}
+use Rattle.asn_tree.specs.declared.types.ChoiceOption.{ChoiceOption, out-ChoiceOption, roll-ChoiceOption}
+use Rattle.asn_tree.specs.declared.types.SequenceOrSet.{SequenceOrSet, out-SequenceOrSet, roll-SequenceOrSet}
+use Rattle.asn_tree.specs.declared.types.SequenceOrSetMember.{SequenceOrSetMember, out-SequenceOrSetMember, roll-SequenceOrSetMember}
+use Rattle.asn_tree.specs.declared.types.SequenceOrSetOf.{SequenceOrSetOf, out-SequenceOrSetOf, roll-SequenceOrSetOf}
+use Rattle.asn_tree.specs.declared.values.LinkedField.{LinkedField, out-LinkedField, roll-LinkedField}
+use Rattle.asn_tree.specs.Folds.{Steps, of_constraint, constraint_read, constraint_is, of_content, of_set, set_read, set_is, of_parameter, parameter_read, parameter_is, of_element, element_read, element_is, of_field, field_read, field_is, of_fields, fields_read, fields_is, of_item, item_read, item_is, of_type, type_read, type_is, of_value, value_read, value_is, of_operation, operation_read, operation_is, of_choice, choice_read, choice_is, of_option, option_read, option_is, of_struct, struct_read, struct_is, of_member, member_read, member_is, of_list, list_read, list_is, of_linked, linked_read, linked_is}
+use Rattle.asn_tree.specs.Layers.{trees, ConstraintLayer, SetLayer, ParameterLayer, ElementLayer, FieldLayer, FieldsLayer, ItemLayer, TypeLayer, ValueLayer, OperationLayer, ChoiceLayer, OptionLayer, StructLayer, MemberLayer, ListLayer, LinkedLayer}
 
 -- the steps of such a rewriting
-pub record Pass : Type 0 where
-  pub at_constraint : ConstraintLayer → Constraint
-  pub at_content : ContentLayer → ContentConstraint
-  pub at_set : SetLayer → ElementOrSetOperation
-  pub at_parameter : ParameterLayer → Parameter
-  pub at_element : ElementLayer → SubtypeElement
-  pub at_field : FieldLayer → InformationObjectField
-  pub at_fields : FieldsLayer → InformationObjectFields
-  pub at_item : ItemLayer → SyntaxApplication
-  pub at_type : TypeLayer → ASN1Type
-  pub at_value : ValueLayer → ASN1Value
-  pub at_operation : OperationLayer → SetOperation
-  pub at_choice : ChoiceLayer → Choice
-  pub at_option : OptionLayer → ChoiceOption
-  pub at_struct : StructLayer → SequenceOrSet
-  pub at_member : MemberLayer → SequenceOrSetMember
-  pub at_list : ListLayer → SequenceOrSetOf
-  pub at_linked : LinkedLayer → LinkedField
+abbrev pub Pass : Type 0
+Pass = Steps trees
 
 -- the steps that change nothing, of which a rewriting changes some
 abbrev pub unchanged : Pass
@@ -64,171 +49,148 @@ unchanged =
 
 module _ (p : Pass) where
   abbrev pub rewritten_constraint : Constraint → Constraint
-  rewritten_constraint = fold-Constraint Constraint ContentConstraint ElementOrSetOperation Parameter SubtypeElement InformationObjectField InformationObjectFields SyntaxApplication ASN1Type ASN1Value SetOperation Choice ChoiceOption SequenceOrSet SequenceOrSetMember SequenceOrSetOf LinkedField p.at_constraint p.at_content p.at_set p.at_parameter p.at_element p.at_field p.at_fields p.at_item p.at_type p.at_value p.at_operation p.at_choice p.at_option p.at_struct p.at_member p.at_list p.at_linked
+  rewritten_constraint = of_constraint p
 
   abbrev pub rewritten_content : ContentConstraint → ContentConstraint
-  rewritten_content = fold-ContentConstraint Constraint ContentConstraint ElementOrSetOperation Parameter SubtypeElement InformationObjectField InformationObjectFields SyntaxApplication ASN1Type ASN1Value SetOperation Choice ChoiceOption SequenceOrSet SequenceOrSetMember SequenceOrSetOf LinkedField p.at_constraint p.at_content p.at_set p.at_parameter p.at_element p.at_field p.at_fields p.at_item p.at_type p.at_value p.at_operation p.at_choice p.at_option p.at_struct p.at_member p.at_list p.at_linked
+  rewritten_content = of_content p
 
   abbrev pub rewritten_set : ElementOrSetOperation → ElementOrSetOperation
-  rewritten_set = fold-ElementOrSetOperation Constraint ContentConstraint ElementOrSetOperation Parameter SubtypeElement InformationObjectField InformationObjectFields SyntaxApplication ASN1Type ASN1Value SetOperation Choice ChoiceOption SequenceOrSet SequenceOrSetMember SequenceOrSetOf LinkedField p.at_constraint p.at_content p.at_set p.at_parameter p.at_element p.at_field p.at_fields p.at_item p.at_type p.at_value p.at_operation p.at_choice p.at_option p.at_struct p.at_member p.at_list p.at_linked
+  rewritten_set = of_set p
 
   abbrev pub rewritten_parameter : Parameter → Parameter
-  rewritten_parameter = fold-Parameter Constraint ContentConstraint ElementOrSetOperation Parameter SubtypeElement InformationObjectField InformationObjectFields SyntaxApplication ASN1Type ASN1Value SetOperation Choice ChoiceOption SequenceOrSet SequenceOrSetMember SequenceOrSetOf LinkedField p.at_constraint p.at_content p.at_set p.at_parameter p.at_element p.at_field p.at_fields p.at_item p.at_type p.at_value p.at_operation p.at_choice p.at_option p.at_struct p.at_member p.at_list p.at_linked
+  rewritten_parameter = of_parameter p
 
   abbrev pub rewritten_element : SubtypeElement → SubtypeElement
-  rewritten_element = fold-SubtypeElement Constraint ContentConstraint ElementOrSetOperation Parameter SubtypeElement InformationObjectField InformationObjectFields SyntaxApplication ASN1Type ASN1Value SetOperation Choice ChoiceOption SequenceOrSet SequenceOrSetMember SequenceOrSetOf LinkedField p.at_constraint p.at_content p.at_set p.at_parameter p.at_element p.at_field p.at_fields p.at_item p.at_type p.at_value p.at_operation p.at_choice p.at_option p.at_struct p.at_member p.at_list p.at_linked
+  rewritten_element = of_element p
 
   abbrev pub rewritten_field : InformationObjectField → InformationObjectField
-  rewritten_field = fold-InformationObjectField Constraint ContentConstraint ElementOrSetOperation Parameter SubtypeElement InformationObjectField InformationObjectFields SyntaxApplication ASN1Type ASN1Value SetOperation Choice ChoiceOption SequenceOrSet SequenceOrSetMember SequenceOrSetOf LinkedField p.at_constraint p.at_content p.at_set p.at_parameter p.at_element p.at_field p.at_fields p.at_item p.at_type p.at_value p.at_operation p.at_choice p.at_option p.at_struct p.at_member p.at_list p.at_linked
+  rewritten_field = of_field p
 
   abbrev pub rewritten_fields : InformationObjectFields → InformationObjectFields
-  rewritten_fields = fold-InformationObjectFields Constraint ContentConstraint ElementOrSetOperation Parameter SubtypeElement InformationObjectField InformationObjectFields SyntaxApplication ASN1Type ASN1Value SetOperation Choice ChoiceOption SequenceOrSet SequenceOrSetMember SequenceOrSetOf LinkedField p.at_constraint p.at_content p.at_set p.at_parameter p.at_element p.at_field p.at_fields p.at_item p.at_type p.at_value p.at_operation p.at_choice p.at_option p.at_struct p.at_member p.at_list p.at_linked
+  rewritten_fields = of_fields p
 
   abbrev pub rewritten_item : SyntaxApplication → SyntaxApplication
-  rewritten_item = fold-SyntaxApplication Constraint ContentConstraint ElementOrSetOperation Parameter SubtypeElement InformationObjectField InformationObjectFields SyntaxApplication ASN1Type ASN1Value SetOperation Choice ChoiceOption SequenceOrSet SequenceOrSetMember SequenceOrSetOf LinkedField p.at_constraint p.at_content p.at_set p.at_parameter p.at_element p.at_field p.at_fields p.at_item p.at_type p.at_value p.at_operation p.at_choice p.at_option p.at_struct p.at_member p.at_list p.at_linked
+  rewritten_item = of_item p
 
   abbrev pub rewritten_type : ASN1Type → ASN1Type
-  rewritten_type = fold-ASN1Type Constraint ContentConstraint ElementOrSetOperation Parameter SubtypeElement InformationObjectField InformationObjectFields SyntaxApplication ASN1Type ASN1Value SetOperation Choice ChoiceOption SequenceOrSet SequenceOrSetMember SequenceOrSetOf LinkedField p.at_constraint p.at_content p.at_set p.at_parameter p.at_element p.at_field p.at_fields p.at_item p.at_type p.at_value p.at_operation p.at_choice p.at_option p.at_struct p.at_member p.at_list p.at_linked
+  rewritten_type = of_type p
 
   abbrev pub rewritten_value : ASN1Value → ASN1Value
-  rewritten_value = fold-ASN1Value Constraint ContentConstraint ElementOrSetOperation Parameter SubtypeElement InformationObjectField InformationObjectFields SyntaxApplication ASN1Type ASN1Value SetOperation Choice ChoiceOption SequenceOrSet SequenceOrSetMember SequenceOrSetOf LinkedField p.at_constraint p.at_content p.at_set p.at_parameter p.at_element p.at_field p.at_fields p.at_item p.at_type p.at_value p.at_operation p.at_choice p.at_option p.at_struct p.at_member p.at_list p.at_linked
+  rewritten_value = of_value p
 
   abbrev pub rewritten_operation : SetOperation → SetOperation
-  rewritten_operation = fold-SetOperation Constraint ContentConstraint ElementOrSetOperation Parameter SubtypeElement InformationObjectField InformationObjectFields SyntaxApplication ASN1Type ASN1Value SetOperation Choice ChoiceOption SequenceOrSet SequenceOrSetMember SequenceOrSetOf LinkedField p.at_constraint p.at_content p.at_set p.at_parameter p.at_element p.at_field p.at_fields p.at_item p.at_type p.at_value p.at_operation p.at_choice p.at_option p.at_struct p.at_member p.at_list p.at_linked
+  rewritten_operation = of_operation p
 
   abbrev pub rewritten_choice : Choice → Choice
-  rewritten_choice = fold-Choice Constraint ContentConstraint ElementOrSetOperation Parameter SubtypeElement InformationObjectField InformationObjectFields SyntaxApplication ASN1Type ASN1Value SetOperation Choice ChoiceOption SequenceOrSet SequenceOrSetMember SequenceOrSetOf LinkedField p.at_constraint p.at_content p.at_set p.at_parameter p.at_element p.at_field p.at_fields p.at_item p.at_type p.at_value p.at_operation p.at_choice p.at_option p.at_struct p.at_member p.at_list p.at_linked
+  rewritten_choice = of_choice p
 
   abbrev pub rewritten_option : ChoiceOption → ChoiceOption
-  rewritten_option = fold-ChoiceOption Constraint ContentConstraint ElementOrSetOperation Parameter SubtypeElement InformationObjectField InformationObjectFields SyntaxApplication ASN1Type ASN1Value SetOperation Choice ChoiceOption SequenceOrSet SequenceOrSetMember SequenceOrSetOf LinkedField p.at_constraint p.at_content p.at_set p.at_parameter p.at_element p.at_field p.at_fields p.at_item p.at_type p.at_value p.at_operation p.at_choice p.at_option p.at_struct p.at_member p.at_list p.at_linked
+  rewritten_option = of_option p
 
   abbrev pub rewritten_struct : SequenceOrSet → SequenceOrSet
-  rewritten_struct = fold-SequenceOrSet Constraint ContentConstraint ElementOrSetOperation Parameter SubtypeElement InformationObjectField InformationObjectFields SyntaxApplication ASN1Type ASN1Value SetOperation Choice ChoiceOption SequenceOrSet SequenceOrSetMember SequenceOrSetOf LinkedField p.at_constraint p.at_content p.at_set p.at_parameter p.at_element p.at_field p.at_fields p.at_item p.at_type p.at_value p.at_operation p.at_choice p.at_option p.at_struct p.at_member p.at_list p.at_linked
+  rewritten_struct = of_struct p
 
   abbrev pub rewritten_member : SequenceOrSetMember → SequenceOrSetMember
-  rewritten_member = fold-SequenceOrSetMember Constraint ContentConstraint ElementOrSetOperation Parameter SubtypeElement InformationObjectField InformationObjectFields SyntaxApplication ASN1Type ASN1Value SetOperation Choice ChoiceOption SequenceOrSet SequenceOrSetMember SequenceOrSetOf LinkedField p.at_constraint p.at_content p.at_set p.at_parameter p.at_element p.at_field p.at_fields p.at_item p.at_type p.at_value p.at_operation p.at_choice p.at_option p.at_struct p.at_member p.at_list p.at_linked
+  rewritten_member = of_member p
 
   abbrev pub rewritten_list : SequenceOrSetOf → SequenceOrSetOf
-  rewritten_list = fold-SequenceOrSetOf Constraint ContentConstraint ElementOrSetOperation Parameter SubtypeElement InformationObjectField InformationObjectFields SyntaxApplication ASN1Type ASN1Value SetOperation Choice ChoiceOption SequenceOrSet SequenceOrSetMember SequenceOrSetOf LinkedField p.at_constraint p.at_content p.at_set p.at_parameter p.at_element p.at_field p.at_fields p.at_item p.at_type p.at_value p.at_operation p.at_choice p.at_option p.at_struct p.at_member p.at_list p.at_linked
+  rewritten_list = of_list p
 
   abbrev pub rewritten_linked : LinkedField → LinkedField
-  rewritten_linked = fold-LinkedField Constraint ContentConstraint ElementOrSetOperation Parameter SubtypeElement InformationObjectField InformationObjectFields SyntaxApplication ASN1Type ASN1Value SetOperation Choice ChoiceOption SequenceOrSet SequenceOrSetMember SequenceOrSetOf LinkedField p.at_constraint p.at_content p.at_set p.at_parameter p.at_element p.at_field p.at_fields p.at_item p.at_type p.at_value p.at_operation p.at_choice p.at_option p.at_struct p.at_member p.at_list p.at_linked
+  rewritten_linked = of_linked p
 
-  -- one level, with its parts rewritten
   abbrev pub constraint_parts : ConstraintLayer → ConstraintLayer
-  constraint_parts = map-Constraint Constraint ContentConstraint ElementOrSetOperation Parameter SubtypeElement InformationObjectField InformationObjectFields SyntaxApplication ASN1Type ASN1Value SetOperation Choice ChoiceOption SequenceOrSet SequenceOrSetMember SequenceOrSetOf LinkedField Constraint ContentConstraint ElementOrSetOperation Parameter SubtypeElement InformationObjectField InformationObjectFields SyntaxApplication ASN1Type ASN1Value SetOperation Choice ChoiceOption SequenceOrSet SequenceOrSetMember SequenceOrSetOf LinkedField rewritten_constraint rewritten_content rewritten_set rewritten_parameter rewritten_element rewritten_field rewritten_fields rewritten_item rewritten_type rewritten_value rewritten_operation rewritten_choice rewritten_option rewritten_struct rewritten_member rewritten_list rewritten_linked
+  constraint_parts = constraint_read p
 
   pub constraint_rewritten : (x : Constraint) → rewritten_constraint x ≡ p.at_constraint (constraint_parts (out-Constraint x))
-  constraint_rewritten x = fold_out-Constraint Constraint ContentConstraint ElementOrSetOperation Parameter SubtypeElement InformationObjectField InformationObjectFields SyntaxApplication ASN1Type ASN1Value SetOperation Choice ChoiceOption SequenceOrSet SequenceOrSetMember SequenceOrSetOf LinkedField p.at_constraint p.at_content p.at_set p.at_parameter p.at_element p.at_field p.at_fields p.at_item p.at_type p.at_value p.at_operation p.at_choice p.at_option p.at_struct p.at_member p.at_list p.at_linked x
+  constraint_rewritten x = constraint_is p x
 
-  -- one level, with its parts rewritten
-  abbrev pub content_parts : ContentLayer → ContentLayer
-  content_parts = map-ContentConstraint Constraint ContentConstraint ElementOrSetOperation Parameter SubtypeElement InformationObjectField InformationObjectFields SyntaxApplication ASN1Type ASN1Value SetOperation Choice ChoiceOption SequenceOrSet SequenceOrSetMember SequenceOrSetOf LinkedField Constraint ContentConstraint ElementOrSetOperation Parameter SubtypeElement InformationObjectField InformationObjectFields SyntaxApplication ASN1Type ASN1Value SetOperation Choice ChoiceOption SequenceOrSet SequenceOrSetMember SequenceOrSetOf LinkedField rewritten_constraint rewritten_content rewritten_set rewritten_parameter rewritten_element rewritten_field rewritten_fields rewritten_item rewritten_type rewritten_value rewritten_operation rewritten_choice rewritten_option rewritten_struct rewritten_member rewritten_list rewritten_linked
-
-  pub content_rewritten : (x : ContentConstraint) → rewritten_content x ≡ p.at_content (content_parts (out-ContentConstraint x))
-  content_rewritten x = fold_out-ContentConstraint Constraint ContentConstraint ElementOrSetOperation Parameter SubtypeElement InformationObjectField InformationObjectFields SyntaxApplication ASN1Type ASN1Value SetOperation Choice ChoiceOption SequenceOrSet SequenceOrSetMember SequenceOrSetOf LinkedField p.at_constraint p.at_content p.at_set p.at_parameter p.at_element p.at_field p.at_fields p.at_item p.at_type p.at_value p.at_operation p.at_choice p.at_option p.at_struct p.at_member p.at_list p.at_linked x
-
-  -- one level, with its parts rewritten
   abbrev pub set_parts : SetLayer → SetLayer
-  set_parts = map-ElementOrSetOperation Constraint ContentConstraint ElementOrSetOperation Parameter SubtypeElement InformationObjectField InformationObjectFields SyntaxApplication ASN1Type ASN1Value SetOperation Choice ChoiceOption SequenceOrSet SequenceOrSetMember SequenceOrSetOf LinkedField Constraint ContentConstraint ElementOrSetOperation Parameter SubtypeElement InformationObjectField InformationObjectFields SyntaxApplication ASN1Type ASN1Value SetOperation Choice ChoiceOption SequenceOrSet SequenceOrSetMember SequenceOrSetOf LinkedField rewritten_constraint rewritten_content rewritten_set rewritten_parameter rewritten_element rewritten_field rewritten_fields rewritten_item rewritten_type rewritten_value rewritten_operation rewritten_choice rewritten_option rewritten_struct rewritten_member rewritten_list rewritten_linked
+  set_parts = set_read p
 
   pub set_rewritten : (x : ElementOrSetOperation) → rewritten_set x ≡ p.at_set (set_parts (out-ElementOrSetOperation x))
-  set_rewritten x = fold_out-ElementOrSetOperation Constraint ContentConstraint ElementOrSetOperation Parameter SubtypeElement InformationObjectField InformationObjectFields SyntaxApplication ASN1Type ASN1Value SetOperation Choice ChoiceOption SequenceOrSet SequenceOrSetMember SequenceOrSetOf LinkedField p.at_constraint p.at_content p.at_set p.at_parameter p.at_element p.at_field p.at_fields p.at_item p.at_type p.at_value p.at_operation p.at_choice p.at_option p.at_struct p.at_member p.at_list p.at_linked x
+  set_rewritten x = set_is p x
 
-  -- one level, with its parts rewritten
   abbrev pub parameter_parts : ParameterLayer → ParameterLayer
-  parameter_parts = map-Parameter Constraint ContentConstraint ElementOrSetOperation Parameter SubtypeElement InformationObjectField InformationObjectFields SyntaxApplication ASN1Type ASN1Value SetOperation Choice ChoiceOption SequenceOrSet SequenceOrSetMember SequenceOrSetOf LinkedField Constraint ContentConstraint ElementOrSetOperation Parameter SubtypeElement InformationObjectField InformationObjectFields SyntaxApplication ASN1Type ASN1Value SetOperation Choice ChoiceOption SequenceOrSet SequenceOrSetMember SequenceOrSetOf LinkedField rewritten_constraint rewritten_content rewritten_set rewritten_parameter rewritten_element rewritten_field rewritten_fields rewritten_item rewritten_type rewritten_value rewritten_operation rewritten_choice rewritten_option rewritten_struct rewritten_member rewritten_list rewritten_linked
+  parameter_parts = parameter_read p
 
   pub parameter_rewritten : (x : Parameter) → rewritten_parameter x ≡ p.at_parameter (parameter_parts (out-Parameter x))
-  parameter_rewritten x = fold_out-Parameter Constraint ContentConstraint ElementOrSetOperation Parameter SubtypeElement InformationObjectField InformationObjectFields SyntaxApplication ASN1Type ASN1Value SetOperation Choice ChoiceOption SequenceOrSet SequenceOrSetMember SequenceOrSetOf LinkedField p.at_constraint p.at_content p.at_set p.at_parameter p.at_element p.at_field p.at_fields p.at_item p.at_type p.at_value p.at_operation p.at_choice p.at_option p.at_struct p.at_member p.at_list p.at_linked x
+  parameter_rewritten x = parameter_is p x
 
-  -- one level, with its parts rewritten
   abbrev pub element_parts : ElementLayer → ElementLayer
-  element_parts = map-SubtypeElement Constraint ContentConstraint ElementOrSetOperation Parameter SubtypeElement InformationObjectField InformationObjectFields SyntaxApplication ASN1Type ASN1Value SetOperation Choice ChoiceOption SequenceOrSet SequenceOrSetMember SequenceOrSetOf LinkedField Constraint ContentConstraint ElementOrSetOperation Parameter SubtypeElement InformationObjectField InformationObjectFields SyntaxApplication ASN1Type ASN1Value SetOperation Choice ChoiceOption SequenceOrSet SequenceOrSetMember SequenceOrSetOf LinkedField rewritten_constraint rewritten_content rewritten_set rewritten_parameter rewritten_element rewritten_field rewritten_fields rewritten_item rewritten_type rewritten_value rewritten_operation rewritten_choice rewritten_option rewritten_struct rewritten_member rewritten_list rewritten_linked
+  element_parts = element_read p
 
   pub element_rewritten : (x : SubtypeElement) → rewritten_element x ≡ p.at_element (element_parts (out-SubtypeElement x))
-  element_rewritten x = fold_out-SubtypeElement Constraint ContentConstraint ElementOrSetOperation Parameter SubtypeElement InformationObjectField InformationObjectFields SyntaxApplication ASN1Type ASN1Value SetOperation Choice ChoiceOption SequenceOrSet SequenceOrSetMember SequenceOrSetOf LinkedField p.at_constraint p.at_content p.at_set p.at_parameter p.at_element p.at_field p.at_fields p.at_item p.at_type p.at_value p.at_operation p.at_choice p.at_option p.at_struct p.at_member p.at_list p.at_linked x
+  element_rewritten x = element_is p x
 
-  -- one level, with its parts rewritten
   abbrev pub field_parts : FieldLayer → FieldLayer
-  field_parts = map-InformationObjectField Constraint ContentConstraint ElementOrSetOperation Parameter SubtypeElement InformationObjectField InformationObjectFields SyntaxApplication ASN1Type ASN1Value SetOperation Choice ChoiceOption SequenceOrSet SequenceOrSetMember SequenceOrSetOf LinkedField Constraint ContentConstraint ElementOrSetOperation Parameter SubtypeElement InformationObjectField InformationObjectFields SyntaxApplication ASN1Type ASN1Value SetOperation Choice ChoiceOption SequenceOrSet SequenceOrSetMember SequenceOrSetOf LinkedField rewritten_constraint rewritten_content rewritten_set rewritten_parameter rewritten_element rewritten_field rewritten_fields rewritten_item rewritten_type rewritten_value rewritten_operation rewritten_choice rewritten_option rewritten_struct rewritten_member rewritten_list rewritten_linked
+  field_parts = field_read p
 
   pub field_rewritten : (x : InformationObjectField) → rewritten_field x ≡ p.at_field (field_parts (out-InformationObjectField x))
-  field_rewritten x = fold_out-InformationObjectField Constraint ContentConstraint ElementOrSetOperation Parameter SubtypeElement InformationObjectField InformationObjectFields SyntaxApplication ASN1Type ASN1Value SetOperation Choice ChoiceOption SequenceOrSet SequenceOrSetMember SequenceOrSetOf LinkedField p.at_constraint p.at_content p.at_set p.at_parameter p.at_element p.at_field p.at_fields p.at_item p.at_type p.at_value p.at_operation p.at_choice p.at_option p.at_struct p.at_member p.at_list p.at_linked x
+  field_rewritten x = field_is p x
 
-  -- one level, with its parts rewritten
   abbrev pub fields_parts : FieldsLayer → FieldsLayer
-  fields_parts = map-InformationObjectFields Constraint ContentConstraint ElementOrSetOperation Parameter SubtypeElement InformationObjectField InformationObjectFields SyntaxApplication ASN1Type ASN1Value SetOperation Choice ChoiceOption SequenceOrSet SequenceOrSetMember SequenceOrSetOf LinkedField Constraint ContentConstraint ElementOrSetOperation Parameter SubtypeElement InformationObjectField InformationObjectFields SyntaxApplication ASN1Type ASN1Value SetOperation Choice ChoiceOption SequenceOrSet SequenceOrSetMember SequenceOrSetOf LinkedField rewritten_constraint rewritten_content rewritten_set rewritten_parameter rewritten_element rewritten_field rewritten_fields rewritten_item rewritten_type rewritten_value rewritten_operation rewritten_choice rewritten_option rewritten_struct rewritten_member rewritten_list rewritten_linked
+  fields_parts = fields_read p
 
   pub fields_rewritten : (x : InformationObjectFields) → rewritten_fields x ≡ p.at_fields (fields_parts (out-InformationObjectFields x))
-  fields_rewritten x = fold_out-InformationObjectFields Constraint ContentConstraint ElementOrSetOperation Parameter SubtypeElement InformationObjectField InformationObjectFields SyntaxApplication ASN1Type ASN1Value SetOperation Choice ChoiceOption SequenceOrSet SequenceOrSetMember SequenceOrSetOf LinkedField p.at_constraint p.at_content p.at_set p.at_parameter p.at_element p.at_field p.at_fields p.at_item p.at_type p.at_value p.at_operation p.at_choice p.at_option p.at_struct p.at_member p.at_list p.at_linked x
+  fields_rewritten x = fields_is p x
 
-  -- one level, with its parts rewritten
   abbrev pub item_parts : ItemLayer → ItemLayer
-  item_parts = map-SyntaxApplication Constraint ContentConstraint ElementOrSetOperation Parameter SubtypeElement InformationObjectField InformationObjectFields SyntaxApplication ASN1Type ASN1Value SetOperation Choice ChoiceOption SequenceOrSet SequenceOrSetMember SequenceOrSetOf LinkedField Constraint ContentConstraint ElementOrSetOperation Parameter SubtypeElement InformationObjectField InformationObjectFields SyntaxApplication ASN1Type ASN1Value SetOperation Choice ChoiceOption SequenceOrSet SequenceOrSetMember SequenceOrSetOf LinkedField rewritten_constraint rewritten_content rewritten_set rewritten_parameter rewritten_element rewritten_field rewritten_fields rewritten_item rewritten_type rewritten_value rewritten_operation rewritten_choice rewritten_option rewritten_struct rewritten_member rewritten_list rewritten_linked
+  item_parts = item_read p
 
   pub item_rewritten : (x : SyntaxApplication) → rewritten_item x ≡ p.at_item (item_parts (out-SyntaxApplication x))
-  item_rewritten x = fold_out-SyntaxApplication Constraint ContentConstraint ElementOrSetOperation Parameter SubtypeElement InformationObjectField InformationObjectFields SyntaxApplication ASN1Type ASN1Value SetOperation Choice ChoiceOption SequenceOrSet SequenceOrSetMember SequenceOrSetOf LinkedField p.at_constraint p.at_content p.at_set p.at_parameter p.at_element p.at_field p.at_fields p.at_item p.at_type p.at_value p.at_operation p.at_choice p.at_option p.at_struct p.at_member p.at_list p.at_linked x
+  item_rewritten x = item_is p x
 
-  -- one level, with its parts rewritten
   abbrev pub type_parts : TypeLayer → TypeLayer
-  type_parts = map-ASN1Type Constraint ContentConstraint ElementOrSetOperation Parameter SubtypeElement InformationObjectField InformationObjectFields SyntaxApplication ASN1Type ASN1Value SetOperation Choice ChoiceOption SequenceOrSet SequenceOrSetMember SequenceOrSetOf LinkedField Constraint ContentConstraint ElementOrSetOperation Parameter SubtypeElement InformationObjectField InformationObjectFields SyntaxApplication ASN1Type ASN1Value SetOperation Choice ChoiceOption SequenceOrSet SequenceOrSetMember SequenceOrSetOf LinkedField rewritten_constraint rewritten_content rewritten_set rewritten_parameter rewritten_element rewritten_field rewritten_fields rewritten_item rewritten_type rewritten_value rewritten_operation rewritten_choice rewritten_option rewritten_struct rewritten_member rewritten_list rewritten_linked
+  type_parts = type_read p
 
   pub type_rewritten : (x : ASN1Type) → rewritten_type x ≡ p.at_type (type_parts (out-ASN1Type x))
-  type_rewritten x = fold_out-ASN1Type Constraint ContentConstraint ElementOrSetOperation Parameter SubtypeElement InformationObjectField InformationObjectFields SyntaxApplication ASN1Type ASN1Value SetOperation Choice ChoiceOption SequenceOrSet SequenceOrSetMember SequenceOrSetOf LinkedField p.at_constraint p.at_content p.at_set p.at_parameter p.at_element p.at_field p.at_fields p.at_item p.at_type p.at_value p.at_operation p.at_choice p.at_option p.at_struct p.at_member p.at_list p.at_linked x
+  type_rewritten x = type_is p x
 
-  -- one level, with its parts rewritten
   abbrev pub value_parts : ValueLayer → ValueLayer
-  value_parts = map-ASN1Value Constraint ContentConstraint ElementOrSetOperation Parameter SubtypeElement InformationObjectField InformationObjectFields SyntaxApplication ASN1Type ASN1Value SetOperation Choice ChoiceOption SequenceOrSet SequenceOrSetMember SequenceOrSetOf LinkedField Constraint ContentConstraint ElementOrSetOperation Parameter SubtypeElement InformationObjectField InformationObjectFields SyntaxApplication ASN1Type ASN1Value SetOperation Choice ChoiceOption SequenceOrSet SequenceOrSetMember SequenceOrSetOf LinkedField rewritten_constraint rewritten_content rewritten_set rewritten_parameter rewritten_element rewritten_field rewritten_fields rewritten_item rewritten_type rewritten_value rewritten_operation rewritten_choice rewritten_option rewritten_struct rewritten_member rewritten_list rewritten_linked
+  value_parts = value_read p
 
   pub value_rewritten : (x : ASN1Value) → rewritten_value x ≡ p.at_value (value_parts (out-ASN1Value x))
-  value_rewritten x = fold_out-ASN1Value Constraint ContentConstraint ElementOrSetOperation Parameter SubtypeElement InformationObjectField InformationObjectFields SyntaxApplication ASN1Type ASN1Value SetOperation Choice ChoiceOption SequenceOrSet SequenceOrSetMember SequenceOrSetOf LinkedField p.at_constraint p.at_content p.at_set p.at_parameter p.at_element p.at_field p.at_fields p.at_item p.at_type p.at_value p.at_operation p.at_choice p.at_option p.at_struct p.at_member p.at_list p.at_linked x
+  value_rewritten x = value_is p x
 
-  -- one level, with its parts rewritten
   abbrev pub operation_parts : OperationLayer → OperationLayer
-  operation_parts = map-SetOperation Constraint ContentConstraint ElementOrSetOperation Parameter SubtypeElement InformationObjectField InformationObjectFields SyntaxApplication ASN1Type ASN1Value SetOperation Choice ChoiceOption SequenceOrSet SequenceOrSetMember SequenceOrSetOf LinkedField Constraint ContentConstraint ElementOrSetOperation Parameter SubtypeElement InformationObjectField InformationObjectFields SyntaxApplication ASN1Type ASN1Value SetOperation Choice ChoiceOption SequenceOrSet SequenceOrSetMember SequenceOrSetOf LinkedField rewritten_constraint rewritten_content rewritten_set rewritten_parameter rewritten_element rewritten_field rewritten_fields rewritten_item rewritten_type rewritten_value rewritten_operation rewritten_choice rewritten_option rewritten_struct rewritten_member rewritten_list rewritten_linked
+  operation_parts = operation_read p
 
   pub operation_rewritten : (x : SetOperation) → rewritten_operation x ≡ p.at_operation (operation_parts (out-SetOperation x))
-  operation_rewritten x = fold_out-SetOperation Constraint ContentConstraint ElementOrSetOperation Parameter SubtypeElement InformationObjectField InformationObjectFields SyntaxApplication ASN1Type ASN1Value SetOperation Choice ChoiceOption SequenceOrSet SequenceOrSetMember SequenceOrSetOf LinkedField p.at_constraint p.at_content p.at_set p.at_parameter p.at_element p.at_field p.at_fields p.at_item p.at_type p.at_value p.at_operation p.at_choice p.at_option p.at_struct p.at_member p.at_list p.at_linked x
+  operation_rewritten x = operation_is p x
 
-  -- one level, with its parts rewritten
   abbrev pub choice_parts : ChoiceLayer → ChoiceLayer
-  choice_parts = map-Choice Constraint ContentConstraint ElementOrSetOperation Parameter SubtypeElement InformationObjectField InformationObjectFields SyntaxApplication ASN1Type ASN1Value SetOperation Choice ChoiceOption SequenceOrSet SequenceOrSetMember SequenceOrSetOf LinkedField Constraint ContentConstraint ElementOrSetOperation Parameter SubtypeElement InformationObjectField InformationObjectFields SyntaxApplication ASN1Type ASN1Value SetOperation Choice ChoiceOption SequenceOrSet SequenceOrSetMember SequenceOrSetOf LinkedField rewritten_constraint rewritten_content rewritten_set rewritten_parameter rewritten_element rewritten_field rewritten_fields rewritten_item rewritten_type rewritten_value rewritten_operation rewritten_choice rewritten_option rewritten_struct rewritten_member rewritten_list rewritten_linked
+  choice_parts = choice_read p
 
   pub choice_rewritten : (x : Choice) → rewritten_choice x ≡ p.at_choice (choice_parts (out-Choice x))
-  choice_rewritten x = fold_out-Choice Constraint ContentConstraint ElementOrSetOperation Parameter SubtypeElement InformationObjectField InformationObjectFields SyntaxApplication ASN1Type ASN1Value SetOperation Choice ChoiceOption SequenceOrSet SequenceOrSetMember SequenceOrSetOf LinkedField p.at_constraint p.at_content p.at_set p.at_parameter p.at_element p.at_field p.at_fields p.at_item p.at_type p.at_value p.at_operation p.at_choice p.at_option p.at_struct p.at_member p.at_list p.at_linked x
+  choice_rewritten x = choice_is p x
 
-  -- one level, with its parts rewritten
   abbrev pub option_parts : OptionLayer → OptionLayer
-  option_parts = map-ChoiceOption Constraint ContentConstraint ElementOrSetOperation Parameter SubtypeElement InformationObjectField InformationObjectFields SyntaxApplication ASN1Type ASN1Value SetOperation Choice ChoiceOption SequenceOrSet SequenceOrSetMember SequenceOrSetOf LinkedField Constraint ContentConstraint ElementOrSetOperation Parameter SubtypeElement InformationObjectField InformationObjectFields SyntaxApplication ASN1Type ASN1Value SetOperation Choice ChoiceOption SequenceOrSet SequenceOrSetMember SequenceOrSetOf LinkedField rewritten_constraint rewritten_content rewritten_set rewritten_parameter rewritten_element rewritten_field rewritten_fields rewritten_item rewritten_type rewritten_value rewritten_operation rewritten_choice rewritten_option rewritten_struct rewritten_member rewritten_list rewritten_linked
+  option_parts = option_read p
 
   pub option_rewritten : (x : ChoiceOption) → rewritten_option x ≡ p.at_option (option_parts (out-ChoiceOption x))
-  option_rewritten x = fold_out-ChoiceOption Constraint ContentConstraint ElementOrSetOperation Parameter SubtypeElement InformationObjectField InformationObjectFields SyntaxApplication ASN1Type ASN1Value SetOperation Choice ChoiceOption SequenceOrSet SequenceOrSetMember SequenceOrSetOf LinkedField p.at_constraint p.at_content p.at_set p.at_parameter p.at_element p.at_field p.at_fields p.at_item p.at_type p.at_value p.at_operation p.at_choice p.at_option p.at_struct p.at_member p.at_list p.at_linked x
+  option_rewritten x = option_is p x
 
-  -- one level, with its parts rewritten
   abbrev pub struct_parts : StructLayer → StructLayer
-  struct_parts = map-SequenceOrSet Constraint ContentConstraint ElementOrSetOperation Parameter SubtypeElement InformationObjectField InformationObjectFields SyntaxApplication ASN1Type ASN1Value SetOperation Choice ChoiceOption SequenceOrSet SequenceOrSetMember SequenceOrSetOf LinkedField Constraint ContentConstraint ElementOrSetOperation Parameter SubtypeElement InformationObjectField InformationObjectFields SyntaxApplication ASN1Type ASN1Value SetOperation Choice ChoiceOption SequenceOrSet SequenceOrSetMember SequenceOrSetOf LinkedField rewritten_constraint rewritten_content rewritten_set rewritten_parameter rewritten_element rewritten_field rewritten_fields rewritten_item rewritten_type rewritten_value rewritten_operation rewritten_choice rewritten_option rewritten_struct rewritten_member rewritten_list rewritten_linked
+  struct_parts = struct_read p
 
   pub struct_rewritten : (x : SequenceOrSet) → rewritten_struct x ≡ p.at_struct (struct_parts (out-SequenceOrSet x))
-  struct_rewritten x = fold_out-SequenceOrSet Constraint ContentConstraint ElementOrSetOperation Parameter SubtypeElement InformationObjectField InformationObjectFields SyntaxApplication ASN1Type ASN1Value SetOperation Choice ChoiceOption SequenceOrSet SequenceOrSetMember SequenceOrSetOf LinkedField p.at_constraint p.at_content p.at_set p.at_parameter p.at_element p.at_field p.at_fields p.at_item p.at_type p.at_value p.at_operation p.at_choice p.at_option p.at_struct p.at_member p.at_list p.at_linked x
+  struct_rewritten x = struct_is p x
 
-  -- one level, with its parts rewritten
   abbrev pub member_parts : MemberLayer → MemberLayer
-  member_parts = map-SequenceOrSetMember Constraint ContentConstraint ElementOrSetOperation Parameter SubtypeElement InformationObjectField InformationObjectFields SyntaxApplication ASN1Type ASN1Value SetOperation Choice ChoiceOption SequenceOrSet SequenceOrSetMember SequenceOrSetOf LinkedField Constraint ContentConstraint ElementOrSetOperation Parameter SubtypeElement InformationObjectField InformationObjectFields SyntaxApplication ASN1Type ASN1Value SetOperation Choice ChoiceOption SequenceOrSet SequenceOrSetMember SequenceOrSetOf LinkedField rewritten_constraint rewritten_content rewritten_set rewritten_parameter rewritten_element rewritten_field rewritten_fields rewritten_item rewritten_type rewritten_value rewritten_operation rewritten_choice rewritten_option rewritten_struct rewritten_member rewritten_list rewritten_linked
+  member_parts = member_read p
 
   pub member_rewritten : (x : SequenceOrSetMember) → rewritten_member x ≡ p.at_member (member_parts (out-SequenceOrSetMember x))
-  member_rewritten x = fold_out-SequenceOrSetMember Constraint ContentConstraint ElementOrSetOperation Parameter SubtypeElement InformationObjectField InformationObjectFields SyntaxApplication ASN1Type ASN1Value SetOperation Choice ChoiceOption SequenceOrSet SequenceOrSetMember SequenceOrSetOf LinkedField p.at_constraint p.at_content p.at_set p.at_parameter p.at_element p.at_field p.at_fields p.at_item p.at_type p.at_value p.at_operation p.at_choice p.at_option p.at_struct p.at_member p.at_list p.at_linked x
+  member_rewritten x = member_is p x
 
-  -- one level, with its parts rewritten
   abbrev pub list_parts : ListLayer → ListLayer
-  list_parts = map-SequenceOrSetOf Constraint ContentConstraint ElementOrSetOperation Parameter SubtypeElement InformationObjectField InformationObjectFields SyntaxApplication ASN1Type ASN1Value SetOperation Choice ChoiceOption SequenceOrSet SequenceOrSetMember SequenceOrSetOf LinkedField Constraint ContentConstraint ElementOrSetOperation Parameter SubtypeElement InformationObjectField InformationObjectFields SyntaxApplication ASN1Type ASN1Value SetOperation Choice ChoiceOption SequenceOrSet SequenceOrSetMember SequenceOrSetOf LinkedField rewritten_constraint rewritten_content rewritten_set rewritten_parameter rewritten_element rewritten_field rewritten_fields rewritten_item rewritten_type rewritten_value rewritten_operation rewritten_choice rewritten_option rewritten_struct rewritten_member rewritten_list rewritten_linked
+  list_parts = list_read p
 
   pub list_rewritten : (x : SequenceOrSetOf) → rewritten_list x ≡ p.at_list (list_parts (out-SequenceOrSetOf x))
-  list_rewritten x = fold_out-SequenceOrSetOf Constraint ContentConstraint ElementOrSetOperation Parameter SubtypeElement InformationObjectField InformationObjectFields SyntaxApplication ASN1Type ASN1Value SetOperation Choice ChoiceOption SequenceOrSet SequenceOrSetMember SequenceOrSetOf LinkedField p.at_constraint p.at_content p.at_set p.at_parameter p.at_element p.at_field p.at_fields p.at_item p.at_type p.at_value p.at_operation p.at_choice p.at_option p.at_struct p.at_member p.at_list p.at_linked x
+  list_rewritten x = list_is p x
 
-  -- one level, with its parts rewritten
   abbrev pub linked_parts : LinkedLayer → LinkedLayer
-  linked_parts = map-LinkedField Constraint ContentConstraint ElementOrSetOperation Parameter SubtypeElement InformationObjectField InformationObjectFields SyntaxApplication ASN1Type ASN1Value SetOperation Choice ChoiceOption SequenceOrSet SequenceOrSetMember SequenceOrSetOf LinkedField Constraint ContentConstraint ElementOrSetOperation Parameter SubtypeElement InformationObjectField InformationObjectFields SyntaxApplication ASN1Type ASN1Value SetOperation Choice ChoiceOption SequenceOrSet SequenceOrSetMember SequenceOrSetOf LinkedField rewritten_constraint rewritten_content rewritten_set rewritten_parameter rewritten_element rewritten_field rewritten_fields rewritten_item rewritten_type rewritten_value rewritten_operation rewritten_choice rewritten_option rewritten_struct rewritten_member rewritten_list rewritten_linked
+  linked_parts = linked_read p
 
   pub linked_rewritten : (x : LinkedField) → rewritten_linked x ≡ p.at_linked (linked_parts (out-LinkedField x))
-  linked_rewritten x = fold_out-LinkedField Constraint ContentConstraint ElementOrSetOperation Parameter SubtypeElement InformationObjectField InformationObjectFields SyntaxApplication ASN1Type ASN1Value SetOperation Choice ChoiceOption SequenceOrSet SequenceOrSetMember SequenceOrSetOf LinkedField p.at_constraint p.at_content p.at_set p.at_parameter p.at_element p.at_field p.at_fields p.at_item p.at_type p.at_value p.at_operation p.at_choice p.at_option p.at_struct p.at_member p.at_list p.at_linked x
+  linked_rewritten x = linked_is p x

@@ -1,10 +1,14 @@
 //! Constraints (X.680 clauses 49 to 51, X.682 clauses 8 to 11) and the arguments of templates (X.683 clause 9).
 
-use crate::objects::{InformationObjectFields, ObjectSet, ObjectSetOver};
-use crate::settings::PropertySettings;
+use crate::objects::{InformationObjectFields, ObjectSet};
 use crate::types::ASN1Type;
 use crate::values::ASN1Value;
-use asn_memory::{Box, List, Text};
+use asn_kinds::{
+    ConstrainedComponentOver, ElementSetOver, InnerTypeConstraintOver, PatternConstraint,
+    SetOperator, TableConstraintOver, UserDefinedConstraint,
+};
+use asn_memory::{Box, List};
+use asn_settings::PropertySettings;
 
 /// A constraint on a type (X.680 49.6), or the arguments of the template that stands before it.
 #[cycle(tree)]
@@ -45,14 +49,6 @@ pub enum Parameter {
     ObjectSetParameter(ObjectSet),
 }
 
-/// What joins two sets of values (X.680 50.1).
-#[derive(Clone, Copy, Debug, PartialEq, Eq)]
-pub enum SetOperator {
-    Intersection,
-    Union,
-    Except,
-}
-
 /// A constraint joined with others by set operators.
 #[derive(Drop)]
 pub struct CompositeConstraint {
@@ -63,38 +59,8 @@ pub struct CompositeConstraint {
     pub extensible: bool,
 }
 
-/// What is asked of a component's presence (X.680 51.8.9).
-#[derive(Clone, Copy, Debug, PartialEq, Eq)]
-pub enum ComponentPresence {
-    /// It is absent.
-    Absent,
-    /// It is present.
-    Present,
-    /// The word OPTIONAL stands: either.
-    Optional,
-    /// No word stands.
-    Unspecified,
-}
-
-/// The components of a `WITH COMPONENTS` (X.680 51.8.6).
-#[derive(Drop)]
-pub struct InnerTypeConstraintOver<C> {
-    /// Whether the list begins with `...`: components that are not listed are free.
-    pub is_partial: bool,
-    /// The listed components in order.
-    pub constraints: List<ConstrainedComponentOver<C>>,
-}
-
 /// The components of a `WITH COMPONENTS` over the constraints of this notation.
 pub type InnerTypeConstraint = InnerTypeConstraintOver<Constraint>;
-
-/// A listed component with what is asked of it (X.680 51.8.7).
-#[derive(Drop)]
-pub struct ConstrainedComponentOver<C> {
-    pub identifier: Text,
-    pub constraints: List<C>,
-    pub presence: ComponentPresence,
-}
 
 /// A listed component over the constraints of this notation.
 pub type ConstrainedComponent = ConstrainedComponentOver<Constraint>;
@@ -110,38 +76,8 @@ pub struct ValueConstraint {
     pub extensible: bool,
 }
 
-/// A table constraint, with the fields that choose a row (X.682 10.3, 10.7).
-#[derive(Drop)]
-pub struct TableConstraintOver<F> {
-    pub object_set: ObjectSetOver<F>,
-    /// The names after `@`, in order.
-    pub linked_fields: List<RelationalConstraint>,
-}
-
 /// A table constraint over the object fields of this notation.
 pub type TableConstraint = TableConstraintOver<InformationObjectFields>;
-
-/// A name after `@` (X.682 10.7).
-#[derive(Drop)]
-pub struct RelationalConstraint {
-    pub field_name: Text,
-    /// 0 where the name starts at the outermost type; else how many types outwards from the innermost it starts.
-    pub level: usize,
-}
-
-/// A pattern (X.680 51.9).
-#[derive(Drop)]
-pub struct PatternConstraint {
-    /// The text between the quotes.
-    pub pattern: Text,
-}
-
-/// A constraint that the notation does not tell (X.682 9.1).
-#[derive(Drop)]
-pub struct UserDefinedConstraint {
-    /// The text between the braces.
-    pub definition: Text,
-}
 
 /// A subtype element (X.680 51.1).
 #[cycle(tree)]
@@ -188,15 +124,6 @@ pub enum SubtypeElement {
     UserDefinedConstraint(UserDefinedConstraint),
     /// Settings of a time type (X.680 51.10).
     PropertySettings(PropertySettings),
-}
-
-/// An element set specification (X.680 50.1).
-#[derive(Drop)]
-pub struct ElementSetOver<O> {
-    /// The root of the set.
-    pub set: O,
-    /// Whether an extension marker follows the root.
-    pub extensible: bool,
 }
 
 /// An element set over the elements of this notation.

@@ -3,10 +3,10 @@
 ghost use Rattle.asn_tree.specs.Calls.{index_of, name_of, numbered};
 ghost use Rattle.std.specs.Prelude.{◌≡◌};
 
-use crate::headers::{AsnTag, ModuleReference};
 use crate::objects::{ASN1Information, ClassLink};
 use crate::types::ASN1Type;
 use crate::values::ASN1Value;
+use asn_headers::{AsnTag, ModuleReference};
 use asn_memory::{List, Text};
 
 /// The modules of a text in order, each with its definitions in order.

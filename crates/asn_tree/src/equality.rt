@@ -1,102 +1,11 @@
 //! Equality of trees: `==` of each type of tree is true exactly where both trees are equal.
 //!
-//! One module for each family, with the names of the trees' modules; `kinds`, `elements` and `classes` have what stands
-//! beside the cycle of types, `plain` the law of `==` of what holds no tree. A tree is compared part by part, by
-//! `SameTree`; the trees that lead back to each other have functions of their own, since a call through the trait tells
-//! the prover nothing of a tree's depth.
+//! One module for each family, with the names of the trees' modules. A tree is compared part by part, by `SameTree`; the
+//! trees that lead back to each other have functions of their own, since a call through the trait tells the prover
+//! nothing of a tree's depth.
 
-ghost use Rattle.asn_tree.specs.Equality.{same_by};
-ghost use Rattle.std.specs.Prelude.{◌≡◌, ◌↔◌, IsTrue};
-
-use asn_memory::{Box, List, Text};
-
-mod classes;
 mod constraints;
 mod definitions;
-mod elements;
-mod errors;
-mod headers;
-mod kinds;
 mod objects;
-mod plain;
 mod types;
 mod values;
-
-pub use errors::{equal_faults, equal_refusals, equal_warnings};
-pub use plain::{equal_marks, equal_settings, equal_words};
-
-/// What can be compared with another of its type.
-pub trait SameTree {
-    /// Whether both are equal.
-    fn is_same(&self, other: &Self) -> bool
-        ensures { IsTrue result ↔ (self.now ≡ other.now) };
-}
-
-// What `==` of each type of tree answers: whether both are equal, which is the test of their codes.
-fn same<T: SameTree>(left: &T, right: &T) -> bool
-    ensures equal { IsTrue result ↔ (left.now ≡ right.now) }
-    ensures gives { result ≡ same_by T.row.coded left.now right.now }
-{
-    left.is_same(right)
-}
-
-impl<T: SameTree> SameTree for List<T> {
-    fn is_same(&self, other: &Self) -> bool {
-        let (left, right) = (self.as_slice(), other.as_slice());
-        if left.len() != right.len() {
-            return false;
-        }
-        for i in 0..left.len() {
-            if !left[i].is_same(&right[i]) {
-                return false;
-            }
-        }
-        true
-    }
-}
-
-impl<T: SameTree> SameTree for Option<T> {
-    fn is_same(&self, other: &Self) -> bool {
-        match (self, other) {
-            (None, None) => true,
-            (Some(left), Some(right)) => left.is_same(right),
-            _ => false,
-        }
-    }
-}
-
-impl<T: SameTree> SameTree for Box<T> {
-    fn is_same(&self, other: &Self) -> bool {
-        self.get().is_same(other.get())
-    }
-}
-
-impl<A: SameTree, B: SameTree> SameTree for (A, B) {
-    fn is_same(&self, other: &Self) -> bool {
-        self.0.is_same(&other.0) && self.1.is_same(&other.1)
-    }
-}
-
-impl SameTree for Text {
-    fn is_same(&self, other: &Self) -> bool {
-        self.as_str() == other.as_str()
-    }
-}
-
-impl SameTree for bool {
-    fn is_same(&self, other: &Self) -> bool {
-        self == other
-    }
-}
-
-impl SameTree for u8 {
-    fn is_same(&self, other: &Self) -> bool {
-        self == other
-    }
-}
-
-impl SameTree for usize {
-    fn is_same(&self, other: &Self) -> bool {
-        self == other
-    }
-}

@@ -3,7 +3,12 @@
 use crate::constraints::Constraint;
 use crate::types::{ASN1Type, DeclarationElsewhere};
 use crate::values::ASN1Value;
+use asn_kinds::{
+    FixedValueFieldOver, InformationObjectFieldReferenceOver, ObjectSetFieldOver, ObjectSetOver,
+    ObjectSetValueOver, TypeFieldOver,
+};
 use asn_memory::{List, Text};
+use asn_syntax::{InformationObjectSyntax, ObjectFieldIdentifier};
 
 /// The class of an object or an object set.
 #[derive(Drop)]
@@ -25,15 +30,6 @@ pub enum ASN1Information {
     Object(InformationObject),
 }
 
-/// A part of a class's own syntax (X.681 10.5).
-#[derive(Drop)]
-pub enum SyntaxExpression {
-    /// A token that stands in each object, unless a group around it is left out.
-    Required(SyntaxToken),
-    /// A group between brackets, which may be left out.
-    Optional(List<SyntaxExpression>),
-}
-
 /// An item of an object in its class's own syntax (X.681 11.6).
 #[cycle(tree)]
 #[derive(Drop)]
@@ -46,23 +42,6 @@ pub enum SyntaxApplication {
     Literal(Text),
     /// A word that may be one of the syntax or the name of a type.
     LiteralOrTypeReference(DeclarationElsewhere),
-}
-
-/// A token of a class's own syntax (X.681 10.5).
-#[derive(Drop)]
-pub enum SyntaxToken {
-    /// A word in capital letters.
-    Literal(Text),
-    Comma,
-    /// The place of a field.
-    Field(ObjectFieldIdentifier),
-}
-
-/// The syntax in which a class's objects are written (X.681 10.5).
-#[derive(Drop)]
-pub struct InformationObjectSyntax {
-    /// Its parts in order.
-    pub expressions: List<SyntaxExpression>,
 }
 
 /// A class (X.681 9.3).
@@ -87,15 +66,6 @@ pub struct InformationObjectClassField {
     pub is_unique: bool,
 }
 
-/// The name of a field with its `&` (X.681 clause 7).
-#[derive(Drop)]
-pub enum ObjectFieldIdentifier {
-    /// A small letter follows the `&`: a value or an object.
-    SingleValue(Text),
-    /// A capital letter follows the `&`: a type or a set.
-    MultipleValue(Text),
-}
-
 /// An object of a class (X.681 11.3).
 #[derive(Drop)]
 pub struct InformationObject {
@@ -113,26 +83,8 @@ pub enum InformationObjectFields {
     CustomSyntax(List<SyntaxApplication>),
 }
 
-/// An item of an object set (X.681 12.3).
-#[derive(Drop)]
-pub enum ObjectSetValueOver<F> {
-    /// The name of an object or an object set.
-    Reference(Text),
-    /// An object.
-    Inline(F),
-}
-
 /// An item of an object set over the object fields of this notation.
 pub type ObjectSetValue = ObjectSetValueOver<InformationObjectFields>;
-
-/// An object set (X.681 12.3).
-#[derive(Drop)]
-pub struct ObjectSetOver<F> {
-    /// The items in order.
-    pub values: List<ObjectSetValueOver<F>>,
-    /// How many items stand before the extension marker, where there is one.
-    pub extensible: Option<usize>,
-}
 
 /// An object set over the object fields of this notation.
 pub type ObjectSet = ObjectSetOver<InformationObjectFields>;
@@ -146,48 +98,14 @@ pub enum InformationObjectField {
     ObjectSetField(ObjectSetField),
 }
 
-/// A field that is a value.
-#[derive(Drop)]
-pub struct FixedValueFieldOver<V> {
-    /// The name with its `&`.
-    pub identifier: Text,
-    pub value: V,
-}
-
 /// A field that is a value of this notation.
 pub type FixedValueField = FixedValueFieldOver<ASN1Value>;
-
-/// A field that is a type.
-#[derive(Drop)]
-pub struct TypeFieldOver<T> {
-    /// The name with its `&`.
-    pub identifier: Text,
-    pub ty: T,
-}
 
 /// A field that is a type of this notation.
 pub type TypeField = TypeFieldOver<ASN1Type>;
 
-/// A field that is an object set.
-#[derive(Drop)]
-pub struct ObjectSetFieldOver<F> {
-    /// The name with its `&`.
-    pub identifier: Text,
-    pub value: ObjectSetOver<F>,
-}
-
 /// A field that is an object set of this notation.
 pub type ObjectSetField = ObjectSetFieldOver<InformationObjectFields>;
-
-/// The type of a class's field, as in `ATTRIBUTE.&Type` (X.681 14.1).
-#[derive(Drop)]
-pub struct InformationObjectFieldReferenceOver<C> {
-    /// The class's name.
-    pub class: Text,
-    /// The fields' names in order.
-    pub field_path: List<ObjectFieldIdentifier>,
-    pub constraints: List<C>,
-}
 
 /// The type of a class's field over the constraints of this notation.
 pub type InformationObjectFieldReference = InformationObjectFieldReferenceOver<Constraint>;

@@ -1,10 +1,14 @@
 //! Types (X.680 clause 17).
 
 use crate::constraints::Constraint;
-use crate::headers::AsnTag;
 use crate::objects::InformationObjectFieldReference;
-use crate::plain::CharacterStringType;
 use crate::values::ASN1Value;
+use asn_headers::AsnTag;
+use asn_kinds::{
+    BitStringOver, BooleanOver, CharacterStringOver, ChoiceSelectionType, DeclarationElsewhereOver,
+    DistinguishedValue, EnumeratedOver, GeneralizedTimeOver, ObjectIdentifierOver, OctetStringOver,
+    RealOver, TimeOver, UTCTimeOver,
+};
 use asn_memory::{Box, List, Text};
 
 /// A type.
@@ -57,12 +61,6 @@ pub enum ASN1Type {
     External,
 }
 
-/// BOOLEAN with its constraints.
-#[derive(Drop)]
-pub struct BooleanOver<C> {
-    pub constraints: List<C>,
-}
-
 /// BOOLEAN over the constraints of this notation.
 pub type Boolean = BooleanOver<Constraint>;
 
@@ -77,104 +75,32 @@ pub struct IntegerOver<C> {
 /// INTEGER over the constraints of this notation.
 pub type Integer = IntegerOver<Constraint>;
 
-/// REAL with its constraints.
-#[derive(Drop)]
-pub struct RealOver<C> {
-    pub constraints: List<C>,
-}
-
 /// REAL over the constraints of this notation.
 pub type Real = RealOver<Constraint>;
-
-/// GeneralizedTime with its constraints.
-#[derive(Drop)]
-pub struct GeneralizedTimeOver<C> {
-    pub constraints: List<C>,
-}
 
 /// GeneralizedTime over the constraints of this notation.
 pub type GeneralizedTime = GeneralizedTimeOver<Constraint>;
 
-/// UTCTime with its constraints.
-#[derive(Drop)]
-pub struct UTCTimeOver<C> {
-    pub constraints: List<C>,
-}
-
 /// UTCTime over the constraints of this notation.
 pub type UTCTime = UTCTimeOver<Constraint>;
-
-/// OCTET STRING with its constraints.
-#[derive(Drop)]
-pub struct OctetStringOver<C> {
-    pub constraints: List<C>,
-}
 
 /// OCTET STRING over the constraints of this notation.
 pub type OctetString = OctetStringOver<Constraint>;
 
-/// BIT STRING with its constraints.
-#[derive(Drop)]
-pub struct BitStringOver<C> {
-    pub constraints: List<C>,
-    /// The named bits, where braces stand (X.680 22.1).
-    pub distinguished_values: Option<List<DistinguishedValue>>,
-}
-
 /// BIT STRING over the constraints of this notation.
 pub type BitString = BitStringOver<Constraint>;
-
-/// OBJECT IDENTIFIER with its constraints.
-#[derive(Drop)]
-pub struct ObjectIdentifierOver<C> {
-    pub constraints: List<C>,
-}
 
 /// OBJECT IDENTIFIER over the constraints of this notation.
 pub type ObjectIdentifier = ObjectIdentifierOver<Constraint>;
 
-/// TIME with its constraints.
-#[derive(Drop)]
-pub struct TimeOver<C> {
-    pub constraints: List<C>,
-}
-
 /// TIME over the constraints of this notation.
 pub type Time = TimeOver<Constraint>;
-
-/// A character string type with its constraints.
-#[derive(Drop)]
-pub struct CharacterStringOver<C> {
-    pub constraints: List<C>,
-    /// Which of them.
-    pub ty: CharacterStringType,
-}
 
 /// A character string type over the constraints of this notation.
 pub type CharacterString = CharacterStringOver<Constraint>;
 
-/// ENUMERATED with its constraints.
-#[derive(Drop)]
-pub struct EnumeratedOver<C> {
-    /// The items in order.
-    pub members: List<Enumeral>,
-    /// How many items stand before the extension marker, where there is one.
-    pub extensible: Option<usize>,
-    pub constraints: List<C>,
-}
-
 /// ENUMERATED over the constraints of this notation.
 pub type Enumerated = EnumeratedOver<Constraint>;
-
-/// A type reference with the constraints written after it.
-#[derive(Drop)]
-pub struct DeclarationElsewhereOver<C> {
-    /// What stands before the last dot of a path.
-    pub parent: Option<Text>,
-    /// The name.
-    pub identifier: Text,
-    pub constraints: List<C>,
-}
 
 /// A type reference over the constraints of this notation.
 pub type DeclarationElsewhere = DeclarationElsewhereOver<Constraint>;
@@ -251,30 +177,4 @@ pub struct ChoiceOption {
     pub constraints: List<Constraint>,
     /// Whether the option's type leads back to the CHOICE.
     pub is_recursive: bool,
-}
-
-/// An item of an ENUMERATED (X.680 20.1).
-#[derive(Drop)]
-pub struct Enumeral {
-    pub name: Text,
-    /// The comment after it.
-    pub description: Option<Text>,
-    /// Its number.
-    pub index: i128,
-}
-
-/// A named number (X.680 19.1) or a named bit (X.680 22.1).
-#[derive(Drop)]
-pub struct DistinguishedValue {
-    pub name: Text,
-    pub value: i128,
-}
-
-/// A selection type: an option of a CHOICE that a name stands for (X.680 30.1).
-#[derive(Drop)]
-pub struct ChoiceSelectionType {
-    /// The name of the CHOICE.
-    pub choice_name: Text,
-    /// The name of the option.
-    pub selected_option: Text,
 }

@@ -1,9 +1,10 @@
 //! Values (X.680 clauses 16 to 44).
 
-use crate::headers::ObjectIdentifierValue;
-use crate::plain::{CharacterStringType, IntegerType, RealValue};
 use crate::types::ASN1Type;
+use asn_headers::ObjectIdentifierValue;
+use asn_kinds::StructLikeFieldValueOver;
 use asn_memory::{Box, List, Text};
+use asn_words::{CharacterStringType, IntegerType, RealValue};
 
 /// A value. Its notation is often that of several types: the variants tell what stands in the text, and those that
 /// begin with `Linked` what it is under its type.
@@ -77,15 +78,6 @@ pub enum ASN1Value {
         identifier: Text,
         can_be_const: bool,
     },
-}
-
-/// The value of a field: written, or its type's default.
-#[derive(Drop)]
-pub enum StructLikeFieldValueOver<V> {
-    /// It is written.
-    Explicit(Box<V>),
-    /// It is left out, and this is the default.
-    Implicit(Box<V>),
 }
 
 /// The value of a field over the values of this notation.

@@ -4,19 +4,35 @@
 //! between them is `asn_tool`'s `run`.
 #![tactic(auto)]
 
-ghost use Rattle.asn_tool.specs.Run.{Ends};
+ghost use Rattle.asn_tool.specs.Run.{Ends, EndsWithoutWords};
 ghost use Rattle.asn_tool.specs.Status.{number};
 ghost use Rattle.asn_tool.specs.declared.ended.Ended.{Ended as OneEnded};
-ghost use Rattle.std.specs.Prelude.{◌≡◌, drop};
+ghost use Rattle.asn_tool.specs.declared.status.Status.{Status as OneStatus};
+ghost use Rattle.std.specs.Prelude.{◌≡◌, IfOk, OnErr, drop};
+ghost use Rattle.std.specs.Process.{exit_status};
 
-use asn_tool::{Ended, Sink, Source, Status, StdSink, StdSource, run};
+use asn_memory::{Mem, OutOfMemory};
+use asn_streams::{Sink, Source, StdSink, StdSource};
+use asn_tool::{Ended, Status, end_without_words, run};
 use std::alloc::Global;
 use std::env::{self, Env};
 use std::io;
 use std::process::ExitCode;
 
+/// All words, the program's own name first. A word that is no UTF-8 is no word that the program knows, and there are none
+/// then.
+///
+/// Err: want of memory.
+fn words(rt: &(impl Env + AllocGlobal)) -> Mem<Vec<String>> {
+    match collected_words(rt) {
+        Ok(words) => Ok(words),
+        Err(error) if error.kind() == io::ErrorKind::OutOfMemory => Err(OutOfMemory),
+        Err(_) => Ok(Vec::new(rt.alloc())),
+    }
+}
+
 /// All words, the program's own name first.
-fn words(rt: &(impl Env + AllocGlobal)) -> io::Result<Vec<String>> {
+fn collected_words(rt: &(impl Env + AllocGlobal)) -> io::Result<Vec<String>> {
     let mut words = Vec::new(rt.alloc());
     for word in env::args(rt)? {
         words.push(word)?;
@@ -34,30 +50,58 @@ fn behind_own_name(words: &[String]) -> &[String]
     }
 }
 
-/// The number of a run's status. Its trees are dropped.
-fn number_of(ended: Ended) -> u8
-    ensures { result ≡ number ended.status }
+/// The program ends with the number of a status.
+fn exit_of(status: Status) -> ExitCode
+    ensures { exit_status result ≡ number status }
 {
-    ended.status.number()
+    ExitCode::from(status.number())
 }
 
-/// Runs under the words behind the program's own name, and gives the number of the status that it comes to.
-fn end_of<S: Source, K: Sink>(alloc: Global, words: &[String], source: &mut S, sink: &mut K) -> u8
-    ensures { (ended : OneEnded) × Ends (drop 1 words.now) (S.left source.old) (S.left source.new) (S.faults source.old) (S.faults source.new) (K.written sink.old) (K.written sink.new) (K.faults sink.old) (K.faults sink.new) ended × (result ≡ number ended.status) }
+/// The status of a run. Its trees are dropped.
+fn status_of(ended: Ended) -> Status
+    ensures { result ≡ ended.status }
 {
-    number_of(run(alloc, behind_own_name(words), source, sink))
+    ended.status
+}
+
+/// Runs under the words behind the program's own name.
+fn status_under<S: Source, K: Sink>(
+    alloc: Global,
+    words: &[String],
+    source: &mut S,
+    sink: &mut K,
+) -> Status
+    ensures { (ended : OneEnded)
+        × Ends (drop 1 words.now) (S.state source.old) (S.state source.new) (K.state sink.old) (K.state sink.new) ended
+        × (result ≡ ended.status) }
+{
+    status_of(run(alloc, behind_own_name(words), source, sink))
+}
+
+/// Runs under the words, and ends with the number of the status that the run comes to. Where there was no memory for the
+/// words, it says so as a run does.
+fn end_of<S: Source, K: Sink>(
+    alloc: Global,
+    words: Mem<Vec<String>>,
+    source: &mut S,
+    sink: &mut K,
+) -> ExitCode
+    ensures runs { IfOk words (λ all. (ended : OneEnded)
+        × Ends (drop 1 all.items) (S.state source.old) (S.state source.new) (K.state sink.old) (K.state sink.new) ended
+        × (exit_status result ≡ number ended.status)) }
+    ensures without_words { OnErr words ((status : OneStatus)
+        × EndsWithoutWords (K.state sink.old) (K.state sink.new) status
+        × (exit_status result ≡ number status)) }
+    ensures unread { OnErr words (source.new ≡ source.old) }
+{
+    match words {
+        Ok(words) => exit_of(status_under(alloc, words.as_slice(), source, sink)),
+        Err(OutOfMemory) => exit_of(end_without_words(sink)),
+    }
 }
 
 fn main(rt: HostRuntime) -> ExitCode {
     let mut source = StdSource::new(rt.stdin());
     let mut sink = StdSink::new(rt.stdout());
-    let words = match words(&rt) {
-        Ok(words) => words,
-        Err(error) if error.kind() == io::ErrorKind::OutOfMemory => {
-            return ExitCode::from(Status::OutOfMemory.number());
-        }
-        // A word that is no UTF-8 is no word that the program knows: as good as none.
-        Err(_) => Vec::new(rt.alloc()),
-    };
-    ExitCode::from(end_of(rt.alloc(), words.as_slice(), &mut source, &mut sink))
+    end_of(rt.alloc(), words(&rt), &mut source, &mut sink)
 }

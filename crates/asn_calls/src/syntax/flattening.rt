@@ -58,7 +58,7 @@ fn add_group(
 }
 
 #[cycle(flattening)]
-#[tactic(auto, using(crate::proofs::Tokens::token_alone, crate::proofs::Tokens::group_opened))]
+#[tactic(auto, using(crate::proofs::SyntaxTokens::token_alone, crate::proofs::SyntaxTokens::group_opened))]
 fn add_in_group(
     alloc: Global,
     tokens: &mut List<(bool, SyntaxToken)>,

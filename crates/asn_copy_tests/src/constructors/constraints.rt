@@ -1,11 +1,12 @@
 //! Constraints.
 
-use crate::comparing::{both, boxed, is_made, list};
+use crate::comparing::{is_made, list};
 use crate::trees::{
     composite, constraint, constraint_list, content, element, element_set, inner, object_set,
     operation, pattern, range, relational, single_element, table, user_defined,
 };
 use asn_copy::ValueConstraintMaking;
+use asn_copy_trees::{both, boxed};
 use asn_markers::{ExtensionMarker, RangeSeperator};
 use asn_memory::{Box, List, Mem, Text};
 use asn_tree::{

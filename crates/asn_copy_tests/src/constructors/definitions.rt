@@ -1,10 +1,11 @@
 //! Definitions and their parameters.
 
-use crate::comparing::{both, is_made, list};
+use crate::comparing::{is_made, list};
 use crate::trees::{
     argument, class, class_definition, object, object_definition, object_set,
     object_set_definition, parameterization, tag, type_definition, value_definition,
 };
+use asn_copy_trees::both;
 use asn_memory::{Mem, Text};
 use asn_tree::{
     ASN1Information, ASN1Type, ASN1Value, ClassLink, ParameterGovernor, Parameterization,

@@ -1,9 +1,10 @@
 //! Headers, identifiers, tags and faults.
 
-use crate::comparing::{both, is_made, list, pair};
+use crate::comparing::{is_made, list, pair};
 use crate::trees::{
     arc, assigned, definitive, encoding, exports, global, header, identifier, import, tag, warning,
 };
+use asn_copy_trees::both;
 use asn_markers::OptionalMarker;
 use asn_memory::{List, Mem, Text};
 use asn_tree::{

@@ -1,10 +1,11 @@
 //! Classes, objects and object sets.
 
-use crate::comparing::{both, is_made, list, pair};
+use crate::comparing::{is_made, list, pair};
 use crate::trees::{
     class, class_field, constraint_list, field_name, field_reference, fields, object_field,
     object_set, object_set_field, object_set_value, syntax, token, type_field,
 };
+use asn_copy_trees::both;
 use asn_memory::{Mem, Text};
 use asn_tree::{
     ASN1Type, ASN1Value, FixedValueField, InformationObjectClass, InformationObjectClassField,

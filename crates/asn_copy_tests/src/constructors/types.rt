@@ -1,11 +1,12 @@
 //! Types.
 
-use crate::comparing::{both, boxed, is_made, list, pair};
+use crate::comparing::{is_made, list, pair};
 use crate::trees::{
     bit_string, boolean, character_string, choice, choice_option, constraint_list, distinguished,
     enumeral, enumerated, integer, list_type, member, object_identifier, octet_string, real,
     reference, selection, sequence, tag, time,
 };
+use asn_copy_trees::{both, boxed};
 use asn_markers::{ExtensionMarker, OptionalMarker};
 use asn_memory::{List, Mem, Text};
 use asn_tree::{

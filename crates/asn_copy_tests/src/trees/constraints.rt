@@ -1,7 +1,8 @@
 //! Constraints and arguments of templates.
 
-use crate::comparing::{both, list};
+use crate::comparing::list;
 use crate::trees::objects::object_set;
+use asn_copy_trees::both;
 use asn_markers::{ExtensionMarker, RangeSeperator};
 use asn_memory::{List, Mem, Text};
 use asn_tree::{

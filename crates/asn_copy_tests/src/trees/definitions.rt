@@ -1,8 +1,9 @@
 //! Definitions, their parameters, and a reading.
 
-use crate::comparing::{both, list};
+use crate::comparing::list;
 use crate::trees::headers::{header, tag};
 use crate::trees::objects::{class, fields, object_set};
+use asn_copy_trees::both;
 use asn_memory::{List, Mem};
 use asn_tree::{
     ASN1Type, ASN1Value, Parameterization, ParameterizationArgument, Reading, ToplevelDefinition,

@@ -1,6 +1,7 @@
 //! Headers, their parts, and a tag.
 
-use crate::comparing::{both, list};
+use crate::comparing::list;
+use asn_copy_trees::both;
 use asn_memory::{Mem, Text};
 use asn_tree::{
     AsnTag, AssignedIdentifier, DefinitiveIdentifier, EncodingReferenceDefault, Exports,

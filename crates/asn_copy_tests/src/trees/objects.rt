@@ -1,7 +1,8 @@
 //! Classes, objects and object sets.
 
-use crate::comparing::{both, list, pair};
+use crate::comparing::{list, pair};
 use crate::trees::constraints::constraint_list;
+use asn_copy_trees::both;
 use asn_markers::{ExtensionMarker, OptionalMarker};
 use asn_memory::{Mem, Text};
 use asn_tree::{

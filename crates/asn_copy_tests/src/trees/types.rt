@@ -1,8 +1,9 @@
 //! Types.
 
-use crate::comparing::{both, list};
+use crate::comparing::list;
 use crate::trees::constraints::constraint_list;
 use crate::trees::headers::tag;
+use asn_copy_trees::both;
 use asn_markers::{ExtensionMarker, OptionalMarker};
 use asn_memory::{Mem, Text};
 use asn_tree::{

@@ -1,6 +1,6 @@
 //! Values.
 
-use crate::comparing::{both, boxed};
+use asn_copy_trees::{both, boxed};
 use asn_memory::{Box, Mem, Text};
 use asn_tree::{ASN1Type, ASN1Value, LinkedField, StructLikeFieldValue};
 use std::alloc::Global;

@@ -1,16 +1,17 @@
-//! Equality of the constraints that lead back to each other, and of arguments.
+//! Equality of constraints and of arguments.
 
-ghost use Rattle.asn_tree.specs.Equality.{same_by, same_by-laws};
+ghost use Rattle.asn_same.specs.Equality.{same_by, same_by-laws};
 ghost use Rattle.std.specs.Prelude.{◌≡◌, ◌↔◌, IsTrue};
 
-use super::objects::{same_information_object_fields, same_object_set_values};
-use super::types::same_asn1_type;
-use super::values::{same_asn1_value, same_optional_asn1_value};
-use super::{SameTree, same};
 use crate::constraints::{
-    Constraint, ContentConstraint, ElementOrSetOperation, Parameter, SetOperation, SubtypeElement,
+    CompositeConstraint, Constraint, ContentConstraint, ElementOrSetOperation, Parameter,
+    SetOperation, SubtypeElement, ValueConstraint,
 };
+use crate::equality::objects::{same_information_object_fields, same_object_set_values};
+use crate::equality::types::same_asn1_type;
+use crate::equality::values::{same_asn1_value, same_optional_asn1_value};
 use asn_memory::List;
+use asn_same::{SameTree, same};
 
 #[cycle(comparing)]
 fn same_constraint(left: &Constraint, right: &Constraint) -> bool
@@ -319,6 +320,52 @@ impl SameTree for SubtypeElement {
 
 impl PartialEq for SubtypeElement {
     ghost use Rattle.asn_tree.specs.contracts.constraints.SubtypeElement.{the_row};
+
+    ghost eq = { same_by the_row.coded };
+
+    ghost laws = { same_by-laws the_row.coded };
+
+    fn eq(&self, other: &Self) -> bool
+        ensures equal { IsTrue result ↔ (self.now ≡ other.now) }
+        ensures gives { result ≡ same_by the_row.coded self.now other.now }
+    {
+        same(self, other)
+    }
+}
+
+impl SameTree for CompositeConstraint {
+    fn is_same(&self, other: &Self) -> bool {
+        self.base_constraint.is_same(&other.base_constraint)
+            && self.operation.is_same(&other.operation)
+            && self.extensible == other.extensible
+    }
+}
+
+impl PartialEq for CompositeConstraint {
+    ghost use Rattle.asn_tree.specs.contracts.constraints.CompositeConstraint.{the_row};
+
+    ghost eq = { same_by the_row.coded };
+
+    ghost laws = { same_by-laws the_row.coded };
+
+    fn eq(&self, other: &Self) -> bool
+        ensures equal { IsTrue result ↔ (self.now ≡ other.now) }
+        ensures gives { result ≡ same_by the_row.coded self.now other.now }
+    {
+        same(self, other)
+    }
+}
+
+impl SameTree for ValueConstraint {
+    fn is_same(&self, other: &Self) -> bool {
+        self.min_value.is_same(&other.min_value)
+            && self.max_value.is_same(&other.max_value)
+            && self.extensible == other.extensible
+    }
+}
+
+impl PartialEq for ValueConstraint {
+    ghost use Rattle.asn_tree.specs.contracts.constraints.ValueConstraint.{the_row};
 
     ghost eq = { same_by the_row.coded };
 

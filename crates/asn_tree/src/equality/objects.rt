@@ -1,16 +1,142 @@
-//! Equality of the parts of objects that lead back to each other.
+//! Equality of classes, objects and their fields.
 
-ghost use Rattle.asn_tree.specs.Equality.{same_by, same_by-laws};
+ghost use Rattle.asn_same.specs.Equality.{same_by, same_by-laws};
 ghost use Rattle.std.specs.Prelude.{◌≡◌, ◌↔◌, IsTrue};
 
-use super::constraints::same_constraints;
-use super::types::same_asn1_type;
-use super::values::same_asn1_value;
-use super::{SameTree, same};
+use crate::equality::constraints::same_constraints;
+use crate::equality::types::same_asn1_type;
+use crate::equality::values::same_asn1_value;
 use crate::objects::{
-    InformationObjectField, InformationObjectFields, ObjectSetValue, SyntaxApplication,
+    ASN1Information, ClassLink, InformationObject, InformationObjectClass,
+    InformationObjectClassField, InformationObjectField, InformationObjectFields, ObjectSetValue,
+    SyntaxApplication,
 };
 use asn_memory::List;
+use asn_same::{SameTree, same};
+
+impl SameTree for ClassLink {
+    fn is_same(&self, other: &Self) -> bool {
+        match (self, other) {
+            (ClassLink::ByName(left), ClassLink::ByName(right)) => left.is_same(right),
+            (
+                ClassLink::ByReference(left_name, left_class),
+                ClassLink::ByReference(right_name, right_class),
+            ) => left_name.is_same(right_name) && left_class.is_same(right_class),
+            _ => false,
+        }
+    }
+}
+
+impl PartialEq for ClassLink {
+    ghost use Rattle.asn_tree.specs.contracts.objects.ClassLink.{the_row};
+
+    ghost eq = { same_by the_row.coded };
+
+    ghost laws = { same_by-laws the_row.coded };
+
+    fn eq(&self, other: &Self) -> bool
+        ensures equal { IsTrue result ↔ (self.now ≡ other.now) }
+        ensures gives { result ≡ same_by the_row.coded self.now other.now }
+    {
+        same(self, other)
+    }
+}
+
+impl SameTree for ASN1Information {
+    fn is_same(&self, other: &Self) -> bool {
+        match (self, other) {
+            (ASN1Information::ObjectClass(left), ASN1Information::ObjectClass(right)) =>
+                left.is_same(right),
+            (ASN1Information::ObjectSet(left), ASN1Information::ObjectSet(right)) => left.is_same(
+                right,
+            ),
+            (ASN1Information::Object(left), ASN1Information::Object(right)) => left.is_same(right),
+            _ => false,
+        }
+    }
+}
+
+impl PartialEq for ASN1Information {
+    ghost use Rattle.asn_tree.specs.contracts.objects.ASN1Information.{the_row};
+
+    ghost eq = { same_by the_row.coded };
+
+    ghost laws = { same_by-laws the_row.coded };
+
+    fn eq(&self, other: &Self) -> bool
+        ensures equal { IsTrue result ↔ (self.now ≡ other.now) }
+        ensures gives { result ≡ same_by the_row.coded self.now other.now }
+    {
+        same(self, other)
+    }
+}
+
+impl SameTree for InformationObjectClass {
+    fn is_same(&self, other: &Self) -> bool {
+        self.fields.is_same(&other.fields) && self.syntax.is_same(&other.syntax)
+    }
+}
+
+impl PartialEq for InformationObjectClass {
+    ghost use Rattle.asn_tree.specs.contracts.objects.InformationObjectClass.{the_row};
+
+    ghost eq = { same_by the_row.coded };
+
+    ghost laws = { same_by-laws the_row.coded };
+
+    fn eq(&self, other: &Self) -> bool
+        ensures equal { IsTrue result ↔ (self.now ≡ other.now) }
+        ensures gives { result ≡ same_by the_row.coded self.now other.now }
+    {
+        same(self, other)
+    }
+}
+
+impl SameTree for InformationObjectClassField {
+    fn is_same(&self, other: &Self) -> bool {
+        self.identifier.is_same(&other.identifier)
+            && self.ty.is_same(&other.ty)
+            && self.is_optional == other.is_optional
+            && self.default.is_same(&other.default)
+            && self.is_unique == other.is_unique
+    }
+}
+
+impl PartialEq for InformationObjectClassField {
+    ghost use Rattle.asn_tree.specs.contracts.objects.InformationObjectClassField.{the_row};
+
+    ghost eq = { same_by the_row.coded };
+
+    ghost laws = { same_by-laws the_row.coded };
+
+    fn eq(&self, other: &Self) -> bool
+        ensures equal { IsTrue result ↔ (self.now ≡ other.now) }
+        ensures gives { result ≡ same_by the_row.coded self.now other.now }
+    {
+        same(self, other)
+    }
+}
+
+impl SameTree for InformationObject {
+    fn is_same(&self, other: &Self) -> bool {
+        self.class_name.is_same(&other.class_name) && self.fields.is_same(&other.fields)
+    }
+}
+
+impl PartialEq for InformationObject {
+    ghost use Rattle.asn_tree.specs.contracts.objects.InformationObject.{the_row};
+
+    ghost eq = { same_by the_row.coded };
+
+    ghost laws = { same_by-laws the_row.coded };
+
+    fn eq(&self, other: &Self) -> bool
+        ensures equal { IsTrue result ↔ (self.now ≡ other.now) }
+        ensures gives { result ≡ same_by the_row.coded self.now other.now }
+    {
+        same(self, other)
+    }
+}
 
 #[cycle(comparing)]
 pub(super) fn same_information_object_fields(

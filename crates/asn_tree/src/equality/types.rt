@@ -1,15 +1,68 @@
-//! Equality of the types that lead back to each other.
+//! Equality of types and of their parts.
 
-ghost use Rattle.asn_tree.specs.Equality.{same_by, same_by-laws};
+ghost use Rattle.asn_same.specs.Equality.{same_by, same_by-laws};
 ghost use Rattle.std.specs.Prelude.{◌≡◌, ◌↔◌, IsTrue};
 
-use super::constraints::same_constraints;
-use super::values::same_optional_asn1_value;
-use super::{SameTree, same};
+use crate::equality::constraints::same_constraints;
+use crate::equality::values::same_optional_asn1_value;
 use crate::types::{
-    ASN1Type, Choice, ChoiceOption, SequenceOrSet, SequenceOrSetMember, SequenceOrSetOf,
+    ASN1Type, Choice, ChoiceOption, IntegerOver, SequenceComponent, SequenceOrSet,
+    SequenceOrSetMember, SequenceOrSetOf,
 };
 use asn_memory::List;
+use asn_same::{SameTree, same};
+
+impl<C: SameTree> SameTree for IntegerOver<C> {
+    fn is_same(&self, other: &Self) -> bool {
+        self.constraints.is_same(&other.constraints)
+            && self
+                .distinguished_values
+                .is_same(&other.distinguished_values)
+    }
+}
+
+impl<C: SameTree> PartialEq for IntegerOver<C> {
+    ghost use Rattle.asn_tree.specs.contracts.types.IntegerOver.{the_row};
+
+    ghost eq = { same_by (the_row C.row).coded };
+
+    ghost laws = { same_by-laws (the_row C.row).coded };
+
+    fn eq(&self, other: &Self) -> bool
+        ensures equal { IsTrue result ↔ (self.now ≡ other.now) }
+        ensures gives { result ≡ same_by (the_row C.row).coded self.now other.now }
+    {
+        same(self, other)
+    }
+}
+
+impl SameTree for SequenceComponent {
+    fn is_same(&self, other: &Self) -> bool {
+        match (self, other) {
+            (SequenceComponent::Member(left), SequenceComponent::Member(right)) => left.is_same(
+                right,
+            ),
+            (SequenceComponent::ComponentsOf(left), SequenceComponent::ComponentsOf(right)) =>
+                left.is_same(right),
+            _ => false,
+        }
+    }
+}
+
+impl PartialEq for SequenceComponent {
+    ghost use Rattle.asn_tree.specs.contracts.types.SequenceComponent.{the_row};
+
+    ghost eq = { same_by the_row.coded };
+
+    ghost laws = { same_by-laws the_row.coded };
+
+    fn eq(&self, other: &Self) -> bool
+        ensures equal { IsTrue result ↔ (self.now ≡ other.now) }
+        ensures gives { result ≡ same_by the_row.coded self.now other.now }
+    {
+        same(self, other)
+    }
+}
 
 #[cycle(comparing)]
 pub(super) fn same_asn1_type(left: &ASN1Type, right: &ASN1Type) -> bool

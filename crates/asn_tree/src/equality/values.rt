@@ -1,12 +1,12 @@
 //! Equality of values.
 
-ghost use Rattle.asn_tree.specs.Equality.{same_by, same_by-laws};
+ghost use Rattle.asn_same.specs.Equality.{same_by, same_by-laws};
 ghost use Rattle.std.specs.Prelude.{◌≡◌, ◌↔◌, IsTrue};
 
-use super::types::same_asn1_type;
-use super::{SameTree, same};
-use crate::values::{ASN1Value, LinkedField, StructLikeFieldValue, StructLikeFieldValueOver};
+use crate::equality::types::same_asn1_type;
+use crate::values::{ASN1Value, LinkedField, StructLikeFieldValue};
 use asn_memory::{Box, List, Text};
+use asn_same::{SameTree, same};
 
 #[cycle(comparing)]
 pub(super) fn same_asn1_value(left: &ASN1Value, right: &ASN1Value) -> bool
@@ -218,33 +218,6 @@ impl PartialEq for LinkedField {
     fn eq(&self, other: &Self) -> bool
         ensures equal { IsTrue result ↔ (self.now ≡ other.now) }
         ensures gives { result ≡ same_by the_row.coded self.now other.now }
-    {
-        same(self, other)
-    }
-}
-
-impl<V: SameTree> SameTree for StructLikeFieldValueOver<V> {
-    fn is_same(&self, other: &Self) -> bool {
-        match (self, other) {
-            (StructLikeFieldValueOver::Explicit(left), StructLikeFieldValueOver::Explicit(right)) =>
-                left.is_same(right),
-            (StructLikeFieldValueOver::Implicit(left), StructLikeFieldValueOver::Implicit(right)) =>
-                left.is_same(right),
-            _ => false,
-        }
-    }
-}
-
-impl<V: SameTree> PartialEq for StructLikeFieldValueOver<V> {
-    ghost use Rattle.asn_tree.specs.contracts.values.StructLikeFieldValueOver.{the_row};
-
-    ghost eq = { same_by (the_row V.row).coded };
-
-    ghost laws = { same_by-laws (the_row V.row).coded };
-
-    fn eq(&self, other: &Self) -> bool
-        ensures equal { IsTrue result ↔ (self.now ≡ other.now) }
-        ensures gives { result ≡ same_by (the_row V.row).coded self.now other.now }
     {
         same(self, other)
     }

@@ -6,7 +6,6 @@ ghost use Rattle.asn_tree.specs.MakingComponents.{nothing, part_of, with_compone
 ghost use Rattle.asn_tree.specs.declared.making.components.Part.{Part};
 ghost use Rattle.std.specs.Prelude.{◌≡◌, IfOk, map};
 
-use crate::making::{Placeholder, into_vec};
 use crate::types::{SequenceComponent, SequenceOrSetMember};
 use asn_memory::{List, Mem, Text};
 use std::alloc::Global;
@@ -20,18 +19,12 @@ pub(super) enum Part<M> {
 }
 
 /// A component, of which only this is known.
-trait Component<M>: Placeholder {
+trait Component<M>: Drop {
     ghost part: { Self → Part M };
 
     /// What the component is.
     fn part(self) -> Part<M>
         ensures { result ≡ part self };
-}
-
-impl Placeholder for SequenceComponent {
-    fn placeholder(alloc: Global) -> Mem<SequenceComponent> {
-        Ok(SequenceComponent::ComponentsOf(Text::new(alloc, "")?))
-    }
 }
 
 impl Component<SequenceOrSetMember> for SequenceComponent {
@@ -85,7 +78,7 @@ impl<M: Drop> Sorted<M> {
 }
 
 /// What has been sorted and, behind it, these components.
-#[tactic(auto, using(crate::proofs::Sorts::parts_are))]
+#[tactic(auto, using(crate::proofs::ComponentsInOrder::parts_are))]
 pub(super) fn sorted_with(
     alloc: Global,
     sorted: Sorted<SequenceOrSetMember>,
@@ -97,7 +90,7 @@ pub(super) fn sorted_with(
     with_each(alloc, sorted, components, are_additions)
 }
 
-#[tactic(auto, using(crate::proofs::Sorts::one_more_part))]
+#[tactic(auto, using(crate::proofs::ComponentsInOrder::one_more_part))]
 fn with_each<M: Drop, C: Component<M>>(
     alloc: Global,
     sorted: Sorted<M>,
@@ -107,7 +100,7 @@ fn with_each<M: Drop, C: Component<M>>(
     ensures { IfOk result (λ all. all ≡ with_parts are_additions sorted (map C.part components)) }
 {
     let mut sorted = sorted;
-    for component in into_vec(alloc, components)? {
+    for component in components.into_vec() {
         sorted = sorted.with(component.part(), are_additions)?;
     }
     Ok(sorted)

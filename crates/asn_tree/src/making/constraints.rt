@@ -1,22 +1,20 @@
 //! Making constraints.
 
-ghost use Rattle.asn_tree.specs.Making.{listed};
-ghost use Rattle.asn_tree.specs.MakingConstraints.{component_of, operation_of};
+ghost use Rattle.asn_kinds.specs.MakingConstraints.{component_of};
+ghost use Rattle.asn_tree.specs.MakingConstraints.{operation_of};
 ghost use Rattle.asn_tree.specs.declared.constraints.SubtypeElement.TheVariants.{MultipleTypeConstraints, SizeConstraint};
 ghost use Rattle.std.specs.Prelude.{◌≡◌, IfOk, Ok, Some, false, true, is_some, map};
 
 use crate::constraints::{
-    ComponentPresence, CompositeConstraint, ConstrainedComponentOver, Constraint,
-    ContentConstraint, ElementOrSetOperation, ElementSet, InnerTypeConstraint, PatternConstraint,
-    RelationalConstraint, SetOperation, SetOperator, SubtypeElement, TableConstraintOver,
-    UserDefinedConstraint, ValueConstraint,
+    CompositeConstraint, Constraint, ContentConstraint, ElementOrSetOperation, ElementSet,
+    InnerTypeConstraint, SetOperation, SubtypeElement, ValueConstraint,
 };
-use crate::making::{Placeholder, beside, into_vec, listed};
-use crate::objects::ObjectSetOver;
 use crate::types::ASN1Type;
 use crate::values::ASN1Value;
+use asn_kinds::{ComponentPresence, SetOperator};
 use asn_markers::{ExtensionMarker, RangeSeperator};
-use asn_memory::{Box, List, Mem, Text};
+use asn_memory::{Box, List, Mem};
+use asn_same::{beside, boxed_each};
 use std::alloc::Global;
 
 /// The encoding of a value of the type.
@@ -59,21 +57,6 @@ impl From<(ASN1Type, ASN1Value)> for ContentConstraint {
     }
 }
 
-/// The set with this root, extensible where a marker stands.
-impl From<(ElementOrSetOperation, Option<ExtensionMarker>)> for ElementSet {
-    ghost use Rattle.std.specs.Prelude.{◌≡◌, is_some};
-
-    ghost from_gives = { λ parts made. made ≡ record { set = parts.0; extensible = is_some parts.1 } };
-
-    fn from(parts: (ElementOrSetOperation, Option<ExtensionMarker>)) -> ElementSet {
-        let (set, marker) = parts;
-        ElementSet {
-            set,
-            extensible: marker.is_some(),
-        }
-    }
-}
-
 /// The single value, extensible where a marker stands.
 impl From<(ASN1Value, Option<ExtensionMarker>)> for SubtypeElement {
     ghost use Rattle.std.specs.Prelude.{◌≡◌, is_some};
@@ -112,25 +95,6 @@ impl CompositeConstraint {
             extensible: marker.is_some(),
         })
     }
-}
-
-impl Placeholder for (SetOperator, Constraint) {
-    fn placeholder(alloc: Global) -> Mem<(SetOperator, Constraint)> {
-        Ok((SetOperator::Union, Constraint::Parameter(List::new(alloc))))
-    }
-}
-
-/// The pairs in their order, each with its second part on the heap.
-fn boxed_each<O: Copy, T: Drop>(alloc: Global, pairs: List<(O, T)>) -> Mem<List<(O, Box<T>)>>
-where
-    (O, T): Placeholder,
-    ensures { IfOk result (λ boxed. boxed ≡ pairs) }
-{
-    let mut boxed = List::new(alloc);
-    for (first, second) in into_vec(alloc, pairs)? {
-        boxed.add((first, Box::new(alloc, second)?))?;
-    }
-    Ok(boxed)
 }
 
 impl ValueConstraint {
@@ -176,59 +140,6 @@ impl ValueConstraint {
     }
 }
 
-impl<F> TableConstraintOver<F> {
-    /// The table constraint of that object set, with the names after `@`. It takes no memory.
-    pub fn from_parts(
-        alloc: Global,
-        object_set: ObjectSetOver<F>,
-        linked_fields: Option<List<RelationalConstraint>>,
-    ) -> Mem<TableConstraintOver<F>>
-        ensures { result ≡ Ok (record {
-          object_set = object_set;
-          linked_fields = listed linked_fields;
-        }) }
-    {
-        Ok(TableConstraintOver {
-            object_set,
-            linked_fields: listed(alloc, linked_fields),
-        })
-    }
-}
-
-impl RelationalConstraint {
-    /// The name after `@`, with the level at which it starts.
-    pub fn from_parts(alloc: Global, level: usize, name: &str) -> Mem<RelationalConstraint>
-        ensures { IfOk result (λ made. made ≡ record { field_name = name.now; level = level }) }
-    {
-        Ok(RelationalConstraint {
-            field_name: Text::new(alloc, name)?,
-            level,
-        })
-    }
-}
-
-impl PatternConstraint {
-    /// The pattern with this text between its quotes.
-    pub fn from_parts(alloc: Global, text: &str) -> Mem<PatternConstraint>
-        ensures { IfOk result (λ made. made.pattern ≡ text.now) }
-    {
-        Ok(PatternConstraint {
-            pattern: Text::new(alloc, text)?,
-        })
-    }
-}
-
-impl UserDefinedConstraint {
-    /// The constraint with this text between its braces.
-    pub fn from_parts(alloc: Global, text: &str) -> Mem<UserDefinedConstraint>
-        ensures { IfOk result (λ made. made.definition ≡ text.now) }
-    {
-        Ok(UserDefinedConstraint {
-            definition: Text::new(alloc, text)?,
-        })
-    }
-}
-
 impl SubtypeElement {
     /// `WITH COMPONENTS` with these components: each has a name, its constraints, and the word on its presence. The
     /// list is partial where a marker stands.
@@ -242,10 +153,9 @@ impl SubtypeElement {
           constraints = map (λ c. component_of c.0.now c.1 c.2) components.entry;
         })) }
     {
-        Ok(SubtypeElement::MultipleTypeConstraints(InnerTypeConstraint {
-            is_partial: marker.is_some(),
-            constraints: components_of(alloc, components)?,
-        }))
+        Ok(SubtypeElement::MultipleTypeConstraints(InnerTypeConstraint::from_parts(
+            alloc, marker, components,
+        )?))
     }
 
     /// `SIZE` of the set's root; that the set is extensible falls away.
@@ -255,42 +165,6 @@ impl SubtypeElement {
         let ElementSet { set, extensible: _ } = set;
         Ok(SubtypeElement::SizeConstraint(Box::new(alloc, set)?))
     }
-}
-
-impl<'a, C: Drop> Placeholder for (&'a str, Option<List<C>>, Option<ComponentPresence>) {
-    fn placeholder(_alloc: Global) -> Mem<(&'a str, Option<List<C>>, Option<ComponentPresence>)> {
-        Ok(("", None, None))
-    }
-}
-
-/// The listed components in their order.
-fn components_of<C: Drop>(
-    alloc: Global,
-    components: List<(&str, Option<List<C>>, Option<ComponentPresence>)>,
-) -> Mem<List<ConstrainedComponentOver<C>>>
-    ensures { IfOk result (λ made. made ≡ map (λ c. component_of c.0.now c.1 c.2) components.entry) }
-{
-    let mut made = List::new(alloc);
-    for (name, constraints, presence) in into_vec(alloc, components)? {
-        made.add(component_of(alloc, name, constraints, presence)?)?;
-    }
-    Ok(made)
-}
-
-fn component_of<C: Drop>(
-    alloc: Global,
-    name: &str,
-    constraints: Option<List<C>>,
-    presence: Option<ComponentPresence>,
-) -> Mem<ConstrainedComponentOver<C>>
-    ensures { IfOk result (λ made. made ≡ component_of name.now constraints presence) }
-{
-    let (identifier, constraints) = beside(Text::new(alloc, name), constraints)?;
-    Ok(ConstrainedComponentOver {
-        identifier,
-        constraints: listed(alloc, constraints),
-        presence: presence.unwrap_or(ComponentPresence::Unspecified),
-    })
 }
 
 impl SetOperation {

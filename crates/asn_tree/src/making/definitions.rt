@@ -1,24 +1,24 @@
 //! Making definitions and their parameters.
 
-ghost use Rattle.asn_tree.specs.Making.{lines_joined};
-ghost use Rattle.asn_tree.specs.declared.definitions.ParameterGovernor.TheVariants as governor;
-ghost use Rattle.asn_tree.specs.declared.objects.ASN1Information.TheVariants as information;
+ghost use Rattle.asn_same.specs.Making.{lines_joined};
 ghost use Rattle.asn_tree.specs.declared.objects.ClassLink.TheVariants.{ByName};
 ghost use Rattle.std.specs.Prelude.{◌≡◌, [], IfOk, None, Some, map};
+ghost use Rattle.asn_tree.specs.declared.definitions.ParameterGovernor.TheVariants as governor;
+ghost use Rattle.asn_tree.specs.declared.objects.ASN1Information.TheVariants as information;
 
 use crate::definitions::{
     ParameterGovernor, Parameterization, ParameterizationArgument, ToplevelInformationDefinition,
     ToplevelTypeDefinition, ToplevelValueDefinition,
 };
-use crate::headers::AsnTag;
-use crate::making::{beside, joined};
 use crate::objects::{
     ASN1Information, ClassLink, InformationObject, InformationObjectClass, InformationObjectFields,
     ObjectSet,
 };
 use crate::types::ASN1Type;
 use crate::values::ASN1Value;
+use asn_headers::AsnTag;
 use asn_memory::{List, Mem, Text};
+use asn_same::{beside, joined};
 use std::alloc::Global;
 
 /// These parameters in their order.

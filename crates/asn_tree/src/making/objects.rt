@@ -1,46 +1,17 @@
 //! Making information object classes, objects and object sets.
 
-ghost use Rattle.asn_tree.specs.Making.{listed, marked};
-ghost use Rattle.asn_tree.specs.MakingObjects.{name_of_field, token_of};
-ghost use Rattle.asn_tree.specs.declared.objects.ObjectSetValueOver.TheVariants.{Reference};
-ghost use Rattle.std.specs.Prelude.{◌≡◌, ◌++◌, IfOk, length};
+ghost use Rattle.asn_syntax.specs.Syntax.{name_of_field};
+ghost use Rattle.std.specs.Prelude.{◌≡◌};
 
-use crate::making::{appended, beside, listed, marked};
 use crate::objects::{
     FixedValueField, InformationObjectClass, InformationObjectClassField, InformationObjectField,
-    InformationObjectFieldReferenceOver, InformationObjectFields, InformationObjectSyntax,
-    ObjectFieldIdentifier, ObjectSet, ObjectSetField, ObjectSetOver, ObjectSetValue,
-    ObjectSetValueOver, SyntaxExpression, SyntaxToken, TypeField,
+    ObjectSet, ObjectSetField, TypeField,
 };
 use crate::types::ASN1Type;
 use crate::values::ASN1Value;
-use asn_markers::{ExtensionMarker, OptionalMarker};
-use asn_memory::{List, Mem, Text};
-use std::alloc::Global;
-
-/// The place of the field.
-impl From<ObjectFieldIdentifier> for SyntaxToken {
-    ghost use Rattle.std.specs.Prelude.{◌≡◌};
-    ghost use Rattle.asn_tree.specs.declared.objects.SyntaxToken.TheVariants.{Field};
-
-    ghost from_gives = { λ field token. token ≡ Field field };
-
-    fn from(field: ObjectFieldIdentifier) -> SyntaxToken {
-        SyntaxToken::Field(field)
-    }
-}
-
-/// The object with these fields.
-impl From<InformationObjectFields> for ObjectSetValue {
-    ghost use Rattle.std.specs.Prelude.{◌≡◌};
-    ghost use Rattle.asn_tree.specs.declared.objects.ObjectSetValueOver.TheVariants.{Inline};
-
-    ghost from_gives = { λ fields item. item ≡ Inline fields };
-
-    fn from(fields: InformationObjectFields) -> ObjectSetValue {
-        ObjectSetValue::Inline(fields)
-    }
-}
+use asn_markers::OptionalMarker;
+use asn_memory::List;
+use asn_syntax::{InformationObjectSyntax, ObjectFieldIdentifier, SyntaxExpression};
 
 /// The class with these fields, and with this syntax where one is given.
 impl From<
@@ -109,16 +80,6 @@ impl From<
     }
 }
 
-/// The name of a field, taken out of its identifier.
-fn name_of(identifier: ObjectFieldIdentifier) -> Text
-    ensures { result ≡ name_of_field identifier }
-{
-    match identifier {
-        ObjectFieldIdentifier::SingleValue(name) => name,
-        ObjectFieldIdentifier::MultipleValue(name) => name,
-    }
-}
-
 /// The field of that name that is the value.
 impl From<(ObjectFieldIdentifier, ASN1Value)> for InformationObjectField {
     ghost use Rattle.std.specs.Prelude.{◌≡◌};
@@ -132,7 +93,7 @@ impl From<(ObjectFieldIdentifier, ASN1Value)> for InformationObjectField {
     fn from(parts: (ObjectFieldIdentifier, ASN1Value)) -> InformationObjectField {
         let (identifier, value) = parts;
         InformationObjectField::FixedValueField(FixedValueField {
-            identifier: name_of(identifier),
+            identifier: identifier.into_name(),
             value,
         })
     }
@@ -151,7 +112,7 @@ impl From<(ObjectFieldIdentifier, ASN1Type)> for InformationObjectField {
     fn from(parts: (ObjectFieldIdentifier, ASN1Type)) -> InformationObjectField {
         let (identifier, ty) = parts;
         InformationObjectField::TypeField(TypeField {
-            identifier: name_of(identifier),
+            identifier: identifier.into_name(),
             ty,
         })
     }
@@ -170,76 +131,8 @@ impl From<(ObjectFieldIdentifier, ObjectSet)> for InformationObjectField {
     fn from(parts: (ObjectFieldIdentifier, ObjectSet)) -> InformationObjectField {
         let (identifier, value) = parts;
         InformationObjectField::ObjectSetField(ObjectSetField {
-            identifier: name_of(identifier),
+            identifier: identifier.into_name(),
             value,
-        })
-    }
-}
-
-impl SyntaxToken {
-    /// The comma for `,`, and the word for any other text.
-    pub fn from_parts(alloc: Global, text: &str) -> Mem<SyntaxToken>
-        ensures { IfOk result (λ made. made ≡ token_of text.now) }
-    {
-        match text {
-            "," => Ok(SyntaxToken::Comma),
-            _ => Ok(SyntaxToken::Literal(Text::new(alloc, text)?)),
-        }
-    }
-}
-
-impl<F> ObjectSetValueOver<F> {
-    /// The object or object set of that name.
-    pub fn from_parts(alloc: Global, name: &str) -> Mem<ObjectSetValueOver<F>>
-        ensures { IfOk result (λ made. made ≡ Reference name.now) }
-    {
-        Ok(ObjectSetValueOver::Reference(Text::new(alloc, name)?))
-    }
-}
-
-impl<F: Drop> ObjectSetOver<F> {
-    /// The set of these items: those of the first list, and, behind an extension marker, those of the second.
-    pub fn from_parts(
-        _alloc: Global,
-        values: List<ObjectSetValueOver<F>>,
-        marker: Option<ExtensionMarker>,
-        additions: Option<List<ObjectSetValueOver<F>>>,
-    ) -> Mem<ObjectSetOver<F>>
-        ensures { IfOk result (λ made. made ≡ record {
-          values = values ++ listed additions;
-          extensible = marked marker (length values);
-        }) }
-    {
-        let extensible = marked(marker, values.len());
-        Ok(ObjectSetOver {
-            values: appended(values, additions)?,
-            extensible,
-        })
-    }
-}
-
-impl<C: Drop> InformationObjectFieldReferenceOver<C> {
-    /// The type of the class's field at the end of these names, with the constraints behind it.
-    pub fn from_parts(
-        alloc: Global,
-        class: &str,
-        field_path: List<ObjectFieldIdentifier>,
-        constraints: Option<List<C>>,
-    ) -> Mem<InformationObjectFieldReferenceOver<C>>
-        ensures { IfOk result (λ made. made ≡ record {
-          class = class.now;
-          field_path = field_path;
-          constraints = listed constraints;
-        }) }
-    {
-        let (class, (field_path, constraints)) = beside(
-            Text::new(alloc, class),
-            (field_path, constraints),
-        )?;
-        Ok(InformationObjectFieldReferenceOver {
-            class,
-            field_path,
-            constraints: listed(alloc, constraints),
         })
     }
 }

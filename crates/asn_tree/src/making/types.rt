@@ -1,39 +1,24 @@
 //! Making types.
 
-ghost use Rattle.asn_tree.specs.Making.{listed, marked};
-ghost use Rattle.asn_tree.specs.MakingTypes.{IsAddition, bounded, choice_of, list_of, member_of, option_of};
-ghost use Rattle.asn_tree.specs.MakingTypes.{sequence_of, sequence_of_members};
-ghost use Rattle.asn_tree.specs.Plain.{string_type};
+ghost use Rattle.asn_same.specs.Making.{listed};
+ghost use Rattle.asn_tree.specs.MakingTypes.{IsAddition, bounded, choice_of, list_of, member_of, option_of, sequence_of, sequence_of_members};
+ghost use Rattle.std.specs.Option.{option_map};
+ghost use Rattle.std.specs.Prelude.{◌≡◌, ◌↔◌, IfOk, IsTrue, Ok, Some};
 ghost use Rattle.asn_tree.specs.declared.values.ASN1Value.TheVariants as value;
-ghost use Rattle.std.specs.Option.{option_copied, option_map};
-ghost use Rattle.std.specs.Prelude.{◌≡◌, ◌++◌, ◌↔◌, [], IfOk, IsTrue, None, Ok, Some, length};
 
 use crate::constraints::{Constraint, ElementOrSetOperation, ElementSet, SubtypeElement};
-use crate::headers::AsnTag;
 use crate::making::components::{Sorted, sorted_with};
-use crate::making::{appended, beside, listed, marked};
-use crate::plain::CharacterStringType;
 use crate::types::{
-    ASN1Type, BitStringOver, BooleanOver, CharacterStringOver, Choice, ChoiceOption,
-    ChoiceSelectionType, DeclarationElsewhereOver, DistinguishedValue, Enumeral, EnumeratedOver,
-    Integer, IntegerOver, ObjectIdentifierOver, OctetStringOver, RealOver, SequenceComponent,
-    SequenceOrSet, SequenceOrSetMember, SequenceOrSetOf, TimeOver,
+    ASN1Type, Choice, ChoiceOption, Integer, IntegerOver, SequenceComponent, SequenceOrSet,
+    SequenceOrSetMember, SequenceOrSetOf,
 };
 use crate::values::ASN1Value;
+use asn_headers::AsnTag;
+use asn_kinds::DistinguishedValue;
 use asn_markers::{ExtensionMarker, OptionalMarker};
 use asn_memory::{Box, List, Mem, Text};
+use asn_same::{appended, beside, listed, marked};
 use std::alloc::Global;
-
-impl<C> BooleanOver<C> {
-    /// BOOLEAN with these constraints. It takes no memory.
-    pub fn from_parts(alloc: Global, constraints: Option<List<C>>) -> Mem<BooleanOver<C>>
-        ensures { result ≡ Ok (record { constraints = listed constraints }) }
-    {
-        Ok(BooleanOver {
-            constraints: listed(alloc, constraints),
-        })
-    }
-}
 
 impl<C> IntegerOver<C> {
     /// INTEGER with these named numbers and constraints; the word before them tells nothing. It takes no memory.
@@ -98,89 +83,6 @@ fn number(number: Option<i128>) -> Option<ASN1Value>
     match number {
         Some(number) => Some(ASN1Value::Integer(number)),
         None => None,
-    }
-}
-
-impl<C> RealOver<C> {
-    /// REAL with these constraints. It takes no memory.
-    pub fn from_parts(alloc: Global, constraints: Option<List<C>>) -> Mem<RealOver<C>>
-        ensures { result ≡ Ok (record { constraints = listed constraints }) }
-    {
-        Ok(RealOver {
-            constraints: listed(alloc, constraints),
-        })
-    }
-}
-
-impl<C> OctetStringOver<C> {
-    /// OCTET STRING with these constraints. It takes no memory.
-    pub fn from_parts(alloc: Global, constraints: Option<List<C>>) -> Mem<OctetStringOver<C>>
-        ensures { result ≡ Ok (record { constraints = listed constraints }) }
-    {
-        Ok(OctetStringOver {
-            constraints: listed(alloc, constraints),
-        })
-    }
-}
-
-impl<C> BitStringOver<C> {
-    /// BIT STRING with these named bits and constraints. It takes no memory.
-    pub fn from_parts(
-        alloc: Global,
-        distinguished_values: Option<List<DistinguishedValue>>,
-        constraints: Option<List<C>>,
-    ) -> Mem<BitStringOver<C>>
-        ensures { result ≡ Ok (record {
-          constraints = listed constraints;
-          distinguished_values = distinguished_values;
-        }) }
-    {
-        Ok(BitStringOver {
-            constraints: listed(alloc, constraints),
-            distinguished_values,
-        })
-    }
-}
-
-impl<C> ObjectIdentifierOver<C> {
-    /// OBJECT IDENTIFIER with these constraints. It takes no memory.
-    pub fn from_parts(alloc: Global, constraints: Option<List<C>>) -> Mem<ObjectIdentifierOver<C>>
-        ensures { result ≡ Ok (record { constraints = listed constraints }) }
-    {
-        Ok(ObjectIdentifierOver {
-            constraints: listed(alloc, constraints),
-        })
-    }
-}
-
-impl<C> TimeOver<C> {
-    /// TIME with these constraints. It takes no memory.
-    pub fn from_parts(alloc: Global, constraints: Option<List<C>>) -> Mem<TimeOver<C>>
-        ensures { result ≡ Ok (record { constraints = listed constraints }) }
-    {
-        Ok(TimeOver {
-            constraints: listed(alloc, constraints),
-        })
-    }
-}
-
-impl<C> CharacterStringOver<C> {
-    /// The character string type that the word names, UTF8String for any other word, with these constraints. It takes
-    /// no memory.
-    pub fn from_parts(
-        alloc: Global,
-        word: &str,
-        constraints: Option<List<C>>,
-    ) -> Mem<CharacterStringOver<C>>
-        ensures { result ≡ Ok (record {
-          constraints = listed constraints;
-          ty = string_type word.now;
-        }) }
-    {
-        Ok(CharacterStringOver {
-            constraints: listed(alloc, constraints),
-            ty: CharacterStringType::from(word),
-        })
     }
 }
 
@@ -341,91 +243,5 @@ impl ChoiceOption {
             constraints: listed(alloc, constraints),
             is_recursive: false,
         })
-    }
-}
-
-impl<C> EnumeratedOver<C> {
-    /// The ENUMERATED of these items: those of the first list, and, behind an extension marker, those of the second.
-    pub fn from_parts(
-        alloc: Global,
-        items: List<Enumeral>,
-        marker: Option<ExtensionMarker>,
-        additions: Option<List<Enumeral>>,
-    ) -> Mem<EnumeratedOver<C>>
-        ensures { IfOk result (λ made. made ≡ record {
-          members = items ++ listed additions;
-          extensible = marked marker (length items);
-          constraints = [];
-        }) }
-    {
-        let extensible = marked(marker, items.len());
-        Ok(EnumeratedOver {
-            members: appended(items, additions)?,
-            extensible,
-            constraints: List::new(alloc),
-        })
-    }
-}
-
-impl DistinguishedValue {
-    /// The number of that name.
-    pub fn from_parts(alloc: Global, name: &str, value: i128) -> Mem<DistinguishedValue>
-        ensures { IfOk result (λ made. made ≡ record { name = name.now; value = value }) }
-    {
-        Ok(DistinguishedValue {
-            name: Text::new(alloc, name)?,
-            value,
-        })
-    }
-}
-
-impl ChoiceSelectionType {
-    /// The type of the option of the first name in the CHOICE of the second.
-    pub fn from_parts(alloc: Global, option: &str, choice: &str) -> Mem<ChoiceSelectionType>
-        ensures { IfOk result (λ made. made ≡ record {
-          choice_name = choice.now;
-          selected_option = option.now;
-        }) }
-    {
-        Ok(ChoiceSelectionType {
-            choice_name: Text::new(alloc, choice)?,
-            selected_option: Text::new(alloc, option)?,
-        })
-    }
-}
-
-impl<C: Drop> DeclarationElsewhereOver<C> {
-    /// The name of a type: what stands before the last dot of a path, the name itself, and the constraints behind it.
-    pub fn from_parts(
-        alloc: Global,
-        parent: Option<&str>,
-        identifier: &str,
-        constraints: Option<List<C>>,
-    ) -> Mem<DeclarationElsewhereOver<C>>
-        ensures { IfOk result (λ made. made ≡ record {
-          parent = option_copied parent.entry;
-          identifier = identifier.now;
-          constraints = listed constraints;
-        }) }
-    {
-        let (parent, constraints) = beside(optional_text(alloc, parent), constraints)?;
-        let (identifier, (parent, constraints)) = beside(
-            Text::new(alloc, identifier),
-            (parent, constraints),
-        )?;
-        Ok(DeclarationElsewhereOver {
-            parent,
-            identifier,
-            constraints: listed(alloc, constraints),
-        })
-    }
-}
-
-fn optional_text(alloc: Global, text: Option<&str>) -> Mem<Option<Text>>
-    ensures { IfOk result (λ made. made ≡ option_copied text.entry) }
-{
-    match text {
-        Some(text) => Ok(Some(Text::new(alloc, text)?)),
-        None => Ok(None),
     }
 }

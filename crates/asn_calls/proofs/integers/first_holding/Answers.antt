@@ -1,5 +1,5 @@
 use Rattle.std.proofs.lemmas.Int.{to_z-of_z}
-use Rattle.asn_calls.proofs.Holding.{first_found}
+use Rattle.asn_calls.proofs.HeldNumbers.{first_found}
 use Rattle.asn_calls.proofs.integers.first_holding.Goals as goal
 
 pub returns-then-spans : goal.returns-then-spans

@@ -1,4 +1,4 @@
-use Rattle.asn_calls.proofs.Spans.{one_more}
+use Rattle.asn_calls.proofs.CharacterSpans.{one_more}
 use Rattle.asn_calls.proofs.strings.numbered.Goals as goal
 
 pub loop-place-preserved : goal.loop-place-preserved

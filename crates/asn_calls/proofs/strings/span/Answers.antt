@@ -1,6 +1,6 @@
 use Rattle.std.proofs.Common.{◌∙◌, ◌++◌, ◌+◌, ap, sym}
 use Rattle.asn_calls.specs.Strings.{span}
-use Rattle.asn_calls.proofs.Spans.{span_more, span_done}
+use Rattle.asn_calls.proofs.CharacterSpans.{span_more, span_done}
 use Rattle.asn_calls.proofs.strings.span.Goals as goal
 
 pub loop-code-preserved : goal.loop-code-preserved

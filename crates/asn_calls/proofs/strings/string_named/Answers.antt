@@ -1,5 +1,5 @@
 use Rattle.asn_calls.specs.Strings.{string_named}
-use Rattle.asn_calls.proofs.Misses.{other}
+use Rattle.asn_calls.proofs.OtherWords.{other}
 use Rattle.asn_calls.proofs.strings.string_named.Goals as goal
 
 pub returns-in_default : goal.returns-in_default

@@ -1,7 +1,7 @@
-use Rattle.std.proofs.Common.{◌≡◌, ◌++◌, drop}
-use Rattle.asn_rules.specs.Nodes.{at_children}
-use Rattle.asn_modules.specs.Modules.{module_of}
+use Rattle.std.proofs.Common.{◌≡◌, drop}
+use Rattle.asn_modules.proofs.Equations.{behind}
+use Rattle.asn_modules.specs.Modules.{modules_of}
 use Rattle.asn_modules.proofs.modules.read_modules.Given as goal
 
 abbrev pub invariant-loop-node : goal.invariant-loop-node
-invariant-loop-node l = l.modules ++ at_children (drop l.node-index l.nodes) 189 (module_of l.text) ≡ at_children l.nodes 189 (module_of l.text)
+invariant-loop-node l = behind l.modules (modules_of l.text (drop l.node-index l.nodes)) ≡ modules_of l.text l.nodes

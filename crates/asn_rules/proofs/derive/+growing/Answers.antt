@@ -1,12 +1,23 @@
-use Rattle.std.proofs.Common.{◌≡◌, ◌+◌, ◌<◌, ◌++◌, max, sym, ap, ◌∙◌, arith}
-use Rattle.asn_rules.specs.Expression.{expression, many}
-use Rattle.asn_rules.specs.Grown.{grown, after, of_outcome}
+use Rattle.std.specs.Prelude.{IfOk}
+use Rattle.std.proofs.Common.{Result, Ok, Err, ℕ, List, length, ◌≤◌, ◌≡◌, ◌+◌, ◌<◌, ◌++◌, max, sym, ap, ◌∙◌, arith}
+use Rattle.asn_rules.specs.Expression.{expression, many, Sight}
+use Rattle.asn_rules.specs.Grown.{grown, after, of_outcome, with_leaf, IsWithinGrowth}
+use Rattle.asn_rules.specs.Runs.{seen}
+use Rattle.asn_rules.specs.declared.marks.Mark.{Mark}
+use Rattle.asn_rules.specs.declared.derive.Growth.{Growth}
 use Rattle.asn_rules.specs.Answer.{answer}
 use Rattle.asn_rules.specs.Grammar.{rules_of}
 use Rattle.asn_rules.specs.declared.derive.Growth.TheVariants.{End, Fail}
 use Rattle.asn_rules.proofs.Theory.{max_is}
-use Rattle.asn_rules.proofs.Trees.{never_grown, call_grown, many_grown, after_after}
+use Rattle.asn_rules.proofs.Trees.{leaf_within, never_grown, call_grown, many_grown, after_after}
 use Rattle.asn_rules.proofs.derive.+growing.Goals as goal
+
+leaves_within : (text : List ℕ) (m : Mark) (s : Sight) (i d : ℕ) {E : Type 0} (r : Result Growth E) → i ≤ length text → IfOk r (λ g. g ≡ with_leaf m i (seen text s i)) → IfOk r (λ g. IsWithinGrowth (length text) d i g)
+leaves_within text m s i d (Ok g) le e = leaf_within text m s i d g le e
+leaves_within text m s i d (Err x) le e = tt
+
+pub grow-returns-in-Marked-clause-within : goal.grow-returns-in-Marked-clause-within
+grow-returns-in-Marked-clause-within t c = leaves_within c.args.text.now _ _ c.args.offset c.args.depth c.grow_mark.result c.requires c.grow_mark.ensures
 
 pub grow-returns-in-Not-clause-value : goal.grow-returns-in-Not-clause-value
 grow-returns-in-Not-clause-value t c =

@@ -4,7 +4,7 @@ use Rattle.asn_rules.specs.Sizes.{lengthened_by, part}
 use Rattle.asn_rules.proofs.guards.with_digits.Given as goal
 
 abbrev pub invariant-loop-digit : goal.invariant-loop-digit
-invariant-loop-digit l = lengthened_by (part l.until_dot (bare l.digits)) 0 ≡ lengthened_by (part l.until_dot (bare l.rest)) l.value
+invariant-loop-digit l = lengthened_by (part l.stretch (bare l.digits)) 0 ≡ lengthened_by (part l.stretch (bare l.rest)) l.value
 
 abbrev pub decreases-loop-digit : goal.decreases-loop-digit
 decreases-loop-digit l = length l.rest

@@ -1,10 +1,16 @@
 use Rattle.std.proofs.Common.{◌≡◌, ◌<◌, max, sym, ap, ◌∙◌, arith, Ok}
-use Rattle.asn_rules.specs.Expression.{expression, many}
+use Rattle.asn_rules.specs.Expression.{expression, many, sight}
 use Rattle.asn_rules.specs.Answer.{answer, raise}
 use Rattle.asn_rules.specs.Grammar.{rules_of}
 use Rattle.asn_rules.specs.declared.run.Outcome.TheVariants.{End, Fail}
-use Rattle.asn_rules.proofs.Theory.{called, many_answer, raise_raise, max_is}
+use Rattle.asn_rules.proofs.Theory.{called, many_answer, raise_raise, max_is, seen_within}
 use Rattle.asn_rules.proofs.run.+matching.Goals as goal
+
+pub run-returns-in-See-clause-within : goal.run-returns-in-See-clause-within
+run-returns-in-See-clause-within t c = seen_within c.args.text.now (sight c.in-See.look) c.args.offset c.args.depth c.see_at.result (omega arith) c.see_at.ensures
+
+pub run-returns-in-Marked-clause-within : goal.run-returns-in-Marked-clause-within
+run-returns-in-Marked-clause-within t c = seen_within c.args.text.now (sight c.in-Marked.look) c.args.offset c.args.depth c.see_at-in-Marked.result (omega arith) c.see_at-in-Marked.ensures
 
 pub run_rule-returns-in-End-clause-value : goal.run_rule-returns-in-End-clause-value
 run_rule-returns-in-End-clause-value t c =

@@ -1,5 +1,5 @@
 use Rattle.std.proofs.Common.{rules}
-use Rattle.asn_tree.proofs.Parts.{choice_is, sequence_is}
+use Rattle.asn_tree.proofs.EqualByParts.{choice_is, sequence_is}
 use Rattle.asn_tree.proofs.equality.+comparing.Goals as goal
 
 pub types::same_choice-returns-then-same_options : goal.types::same_choice-returns-then-same_options

@@ -1,6 +1,6 @@
 use Rattle.std.proofs.Common.{◌≡◌, ◌∙◌, true}
-use Rattle.asn_tree.specs.Settings.{starts_with_digit}
-use Rattle.asn_calls.proofs.Numbers.{parsed}
+use Rattle.asn_settings.specs.Settings.{starts_with_digit}
+use Rattle.asn_calls.proofs.DecimalNumbers.{parsed}
 use Rattle.asn_calls.proofs.syntax.matching.is_number.Goals as goal
 
 pub returns-then-starts_with_digit : goal.returns-then-starts_with_digit

@@ -1,0 +1,3 @@
+pub mod Enumeration
+pub mod Laws
+pub mod inner

@@ -1,0 +1,308 @@
+//! Rules 54 to 101: types.
+//!
+//! The words of a row are explained in `lexical_rules.rt`; `'X'` skips blanks and comments, and then stands as a whole
+//! word, and `words(A, B)` is one of these words behind blanks and comments. `whole.rt` alone calls this file.
+
+use crate::expression::Expression::{Call, Many};
+use crate::expression::{Expression, Sight};
+use crate::forms::{
+    BLANK, EMPTY, GAP, choice, keyword, keyword_as, option, seq, some, symbol, words,
+};
+use crate::marks::Mark;
+use crate::names::{
+    ADDITION_LIST, ASN_TAG, ASN1_TYPE, ASN1_VALUE, BIT_STRING, BOOLEAN, CHARACTER_STRING, CHOICE,
+    CHOICE_OPTION, CLASS_NAME, COMMENT, COMPONENT_LIST, COMPONENT_PATH, CONSTRAINT, DEFAULT,
+    DISTINGUISHED_VAL, DISTINGUISHED_VALUES, ELEMENT, ELSEWHERE_DECLARED_TYPE, EMBEDDED_PDV,
+    ENUMERAL, ENUMERAL_LIST, ENUMERATED, EXTENSION_GROUP, EXTENSION_MARK, EXTENSION_MARKER,
+    EXTERNAL, FIELD_STEP, GENERALIZED_TIME, GROUP_NUMBER, IDENTIFIER,
+    INFORMATION_OBJECT_FIELD_REFERENCE, INSTANCE_OF, INTEGER, ITEM_COMMENT, ITEM_NUMBER, NULL,
+    NUMBER_I128, NUMBER_U64, OBJECT_FIELD_IDENTIFIER, OBJECT_IDENTIFIER, OCTET_STRING,
+    OPTION_ADDITIONS, OPTION_GROUP, OPTION_LIST, OPTIONAL_MARKER, REAL, SELECTION_TYPE_CHOICE,
+    SEQUENCE, SEQUENCE_COMPONENT, SEQUENCE_OF, SEQUENCE_OR_SET_MEMBER, SET, SET_OF, STRUCT_BODY,
+    TIME, TITLE_CASE_IDENTIFIER, UTC_TIME, VALUE_IDENTIFIER, VALUE_PATH,
+};
+
+// 54 null = 'NULL'
+pub(crate) static RULE_54: Expression = keyword!(b"NULL");
+// 55 selection_type_choice = value_identifier "<" title_case_identifier
+pub(crate) static RULE_55: Expression = seq!(
+    Call(VALUE_IDENTIFIER),
+    symbol!(b"<"),
+    Call(TITLE_CASE_IDENTIFIER)
+);
+// 56 object_identifier = ('OBJECT' 'IDENTIFIER' / 'RELATIVE-OID') constraint?
+pub(crate) static RULE_56: Expression = seq!(
+    choice!(
+        seq!(keyword!(b"OBJECT"), keyword!(b"IDENTIFIER")),
+        keyword!(b"RELATIVE-OID")
+    ),
+    option!(Call(CONSTRAINT))
+);
+// 57 element = value_identifier asn1_type / asn1_type
+pub(crate) static RULE_57: Expression = choice!(
+    seq!(Call(VALUE_IDENTIFIER), Call(ASN1_TYPE)),
+    Call(ASN1_TYPE)
+);
+// 58 sequence_of = 'SEQUENCE' constraint? 'OF' element
+pub(crate) static RULE_58: Expression = seq!(
+    keyword!(b"SEQUENCE"),
+    option!(Call(CONSTRAINT)),
+    keyword!(b"OF"),
+    Call(ELEMENT)
+);
+// 59 set_of = 'SET' constraint? 'OF' element
+pub(crate) static RULE_59: Expression = seq!(
+    keyword!(b"SET"),
+    option!(Call(CONSTRAINT)),
+    keyword!(b"OF"),
+    Call(ELEMENT)
+);
+// 60 sequence = 'SEQUENCE' struct_body constraint?
+pub(crate) static RULE_60: Expression = seq!(
+    keyword!(b"SEQUENCE"),
+    Call(STRUCT_BODY),
+    option!(Call(CONSTRAINT))
+);
+// 61 set = 'SET' struct_body constraint?
+pub(crate) static RULE_61: Expression = seq!(
+    keyword!(b"SET"),
+    Call(STRUCT_BODY),
+    option!(Call(CONSTRAINT))
+);
+// 62 struct_body = "{" component_list extension_mark? addition_list "}"
+pub(crate) static RULE_62: Expression = seq!(
+    symbol!(b"{"),
+    Call(COMPONENT_LIST),
+    option!(Call(EXTENSION_MARK)),
+    Call(ADDITION_LIST),
+    symbol!(b"}")
+);
+// 63 extension_mark = extension_marker ","?
+pub(crate) static RULE_63: Expression = seq!(Call(EXTENSION_MARKER), option!(symbol!(b",")));
+// 64 component_list = (sequence_component ","?)*
+pub(crate) static RULE_64: Expression = Many(&seq!(
+    Call(SEQUENCE_COMPONENT),
+    option!(symbol!(b","))
+));
+// 65 addition_list = ((extension_group / sequence_component) ","?)*
+pub(crate) static RULE_65: Expression = Many(&seq!(
+    choice!(Call(EXTENSION_GROUP), Call(SEQUENCE_COMPONENT)),
+    option!(symbol!(b","))
+));
+// 66 extension_group = "[" "[" group_number? (sequence_component ","?)+ "]" "]"
+pub(crate) static RULE_66: Expression = seq!(
+    symbol!(b"["),
+    symbol!(b"["),
+    option!(Call(GROUP_NUMBER)),
+    some!(seq!(Call(SEQUENCE_COMPONENT), option!(symbol!(b",")))),
+    symbol!(b"]"),
+    symbol!(b"]")
+);
+// 67 group_number = number_i128 ":"
+pub(crate) static RULE_67: Expression = seq!(Call(NUMBER_I128), symbol!(b":"));
+// 68 component_path = identifier ("." "&" identifier)*
+pub(crate) static RULE_68: Expression = seq!(
+    Call(IDENTIFIER),
+    Many(&seq!(symbol!(b"."), symbol!(b"&"), Call(IDENTIFIER)))
+);
+// 69 sequence_component = 'COMPONENTS' 'OF' component_path / sequence_or_set_member
+pub(crate) static RULE_69: Expression = choice!(
+    seq!(
+        keyword!(b"COMPONENTS"),
+        keyword!(b"OF"),
+        Call(COMPONENT_PATH)
+    ),
+    Call(SEQUENCE_OR_SET_MEMBER)
+);
+// 70 sequence_or_set_member = identifier asn_tag? asn1_type constraint? optional_marker default
+pub(crate) static RULE_70: Expression = seq!(
+    Call(IDENTIFIER),
+    option!(Call(ASN_TAG)),
+    Call(ASN1_TYPE),
+    option!(Call(CONSTRAINT)),
+    Call(OPTIONAL_MARKER),
+    Call(DEFAULT)
+);
+// 71 optional_marker = 'OPTIONAL'?
+pub(crate) static RULE_71: Expression = option!(keyword_as!(Optional, b"OPTIONAL"));
+// 72 default = ('DEFAULT' asn1_value)?
+pub(crate) static RULE_72: Expression = option!(seq!(keyword!(b"DEFAULT"), Call(ASN1_VALUE)));
+// 73 asn_tag = "[" words(PRIVATE, APPLICATION, UNIVERSAL)? number_u64 "]" words(EXPLICIT, IMPLICIT)?
+pub(crate) static RULE_73: Expression = seq!(
+    symbol!(b"["),
+    option!(words!(
+        (Private, b"PRIVATE"),
+        (Application, b"APPLICATION"),
+        (Universal, b"UNIVERSAL")
+    )),
+    Call(NUMBER_U64),
+    symbol!(b"]"),
+    option!(words!((Explicit, b"EXPLICIT"), (Implicit, b"IMPLICIT")))
+);
+// 74 utc_time = 'UTCTime' constraint?
+pub(crate) static RULE_74: Expression = seq!(keyword!(b"UTCTime"), option!(Call(CONSTRAINT)));
+// 75 external = 'EXTERNAL'
+pub(crate) static RULE_75: Expression = keyword!(b"EXTERNAL");
+// 76 embedded_pdv = 'EMBEDDED' 'PDV'
+pub(crate) static RULE_76: Expression = seq!(keyword!(b"EMBEDDED"), keyword!(b"PDV"));
+// 77 instance_of = 'INSTANCE' 'OF' class_name constraint?
+pub(crate) static RULE_77: Expression = seq!(
+    keyword!(b"INSTANCE"),
+    keyword!(b"OF"),
+    Call(CLASS_NAME),
+    option!(Call(CONSTRAINT))
+);
+// 78 generalized_time = 'GeneralizedTime' constraint?
+pub(crate) static RULE_78: Expression = seq!(
+    keyword!(b"GeneralizedTime"),
+    option!(Call(CONSTRAINT))
+);
+// 79 real = 'REAL' constraint?
+pub(crate) static RULE_79: Expression = seq!(keyword!(b"REAL"), option!(Call(CONSTRAINT)));
+// 80 choice = 'CHOICE' "{" option_list extension_mark? option_additions "}"
+pub(crate) static RULE_80: Expression = seq!(
+    keyword!(b"CHOICE"),
+    symbol!(b"{"),
+    Call(OPTION_LIST),
+    option!(Call(EXTENSION_MARK)),
+    Call(OPTION_ADDITIONS),
+    symbol!(b"}")
+);
+// 81 option_list = (choice_option ","?)*
+pub(crate) static RULE_81: Expression = Many(&seq!(Call(CHOICE_OPTION), option!(symbol!(b","))));
+// 82 option_additions = ((option_group / choice_option) ","?)*
+pub(crate) static RULE_82: Expression = Many(&seq!(
+    choice!(Call(OPTION_GROUP), Call(CHOICE_OPTION)),
+    option!(symbol!(b","))
+));
+// 83 option_group = "[" "[" group_number? (choice_option ","?)+ "]" "]"
+pub(crate) static RULE_83: Expression = seq!(
+    symbol!(b"["),
+    symbol!(b"["),
+    option!(Call(GROUP_NUMBER)),
+    some!(seq!(Call(CHOICE_OPTION), option!(symbol!(b",")))),
+    symbol!(b"]"),
+    symbol!(b"]")
+);
+// 84 choice_option = identifier asn_tag? asn1_type constraint?
+pub(crate) static RULE_84: Expression = seq!(
+    Call(IDENTIFIER),
+    option!(Call(ASN_TAG)),
+    Call(ASN1_TYPE),
+    option!(Call(CONSTRAINT))
+);
+// 85 integer = 'INTEGER' distinguished_values? constraint?
+pub(crate) static RULE_85: Expression = seq!(
+    keyword!(b"INTEGER"),
+    option!(Call(DISTINGUISHED_VALUES)),
+    option!(Call(CONSTRAINT))
+);
+// 86 distinguished_values = "{" (distinguished_val ","?)* "}"
+pub(crate) static RULE_86: Expression = seq!(
+    symbol!(b"{"),
+    Many(&seq!(Call(DISTINGUISHED_VAL), option!(symbol!(b",")))),
+    symbol!(b"}")
+);
+// 87 distinguished_val = identifier "(" number_i128 ")"
+pub(crate) static RULE_87: Expression = seq!(
+    Call(IDENTIFIER),
+    symbol!(b"("),
+    Call(NUMBER_I128),
+    symbol!(b")")
+);
+// 88 enumerated = 'ENUMERATED' "{" enumeral_list extension_mark? enumeral_list "}"
+pub(crate) static RULE_88: Expression = seq!(
+    keyword!(b"ENUMERATED"),
+    symbol!(b"{"),
+    Call(ENUMERAL_LIST),
+    option!(Call(EXTENSION_MARK)),
+    Call(ENUMERAL_LIST),
+    symbol!(b"}")
+);
+// 89 enumeral_list = enumeral*
+pub(crate) static RULE_89: Expression = Many(&Call(ENUMERAL));
+// 90 enumeral = identifier item_number? ","? item_comment?
+pub(crate) static RULE_90: Expression = seq!(
+    Call(IDENTIFIER),
+    option!(Call(ITEM_NUMBER)),
+    option!(symbol!(b",")),
+    option!(Call(ITEM_COMMENT))
+);
+// 91 item_number = "(" number_i128 ")"
+pub(crate) static RULE_91: Expression = seq!(symbol!(b"("), Call(NUMBER_I128), symbol!(b")"));
+// 92 item_comment = blank* comment
+pub(crate) static RULE_92: Expression = seq!(Many(&BLANK), Call(COMMENT));
+// 93 boolean = 'BOOLEAN' constraint?
+pub(crate) static RULE_93: Expression = seq!(keyword!(b"BOOLEAN"), option!(Call(CONSTRAINT)));
+// 94 bit_string = 'BIT' 'STRING' distinguished_values? constraint?
+pub(crate) static RULE_94: Expression = seq!(
+    keyword!(b"BIT"),
+    keyword!(b"STRING"),
+    option!(Call(DISTINGUISHED_VALUES)),
+    option!(Call(CONSTRAINT))
+);
+// 95 time = 'TIME' constraint?
+pub(crate) static RULE_95: Expression = seq!(keyword!(b"TIME"), option!(Call(CONSTRAINT)));
+// 96 octet_string = 'OCTET' 'STRING' constraint?
+pub(crate) static RULE_96: Expression = seq!(
+    keyword!(b"OCTET"),
+    keyword!(b"STRING"),
+    option!(Call(CONSTRAINT))
+);
+// 97 character_string = words(IA5String, UTF8String, NumericString, VisibleString, TeletexString, VideotexString, GraphicString, GeneralString, UniversalString, BMPString, PrintableString) constraint?
+pub(crate) static RULE_97: Expression = seq!(
+    words!(
+        (Ia5String, b"IA5String"),
+        (Utf8String, b"UTF8String"),
+        (NumericString, b"NumericString"),
+        (VisibleString, b"VisibleString"),
+        (TeletexString, b"TeletexString"),
+        (VideotexString, b"VideotexString"),
+        (GraphicString, b"GraphicString"),
+        (GeneralString, b"GeneralString"),
+        (UniversalString, b"UniversalString"),
+        (BmpString, b"BMPString"),
+        (PrintableString, b"PrintableString")
+    ),
+    option!(Call(CONSTRAINT))
+);
+// 98 field_step = "." object_field_identifier
+pub(crate) static RULE_98: Expression = seq!(symbol!(b"."), Call(OBJECT_FIELD_IDENTIFIER));
+// 99 information_object_field_reference = class_name field_step+ constraint?
+pub(crate) static RULE_99: Expression = seq!(
+    Call(CLASS_NAME),
+    some!(Call(FIELD_STEP)),
+    option!(Call(CONSTRAINT))
+);
+// 100 elsewhere_declared_type = value_path title_case_identifier constraint?
+pub(crate) static RULE_100: Expression = seq!(
+    Call(VALUE_PATH),
+    Call(TITLE_CASE_IDENTIFIER),
+    option!(Call(CONSTRAINT))
+);
+// 101 asn1_type = null / selection_type_choice / object_identifier / sequence_of / sequence / set_of / set / utc_time / external / embedded_pdv / instance_of / generalized_time / real / choice / integer / enumerated / boolean / bit_string / time / octet_string / character_string / information_object_field_reference / elsewhere_declared_type
+pub(crate) static RULE_101: Expression = choice!(
+    Call(NULL),
+    Call(SELECTION_TYPE_CHOICE),
+    Call(OBJECT_IDENTIFIER),
+    Call(SEQUENCE_OF),
+    Call(SEQUENCE),
+    Call(SET_OF),
+    Call(SET),
+    Call(UTC_TIME),
+    Call(EXTERNAL),
+    Call(EMBEDDED_PDV),
+    Call(INSTANCE_OF),
+    Call(GENERALIZED_TIME),
+    Call(REAL),
+    Call(CHOICE),
+    Call(INTEGER),
+    Call(ENUMERATED),
+    Call(BOOLEAN),
+    Call(BIT_STRING),
+    Call(TIME),
+    Call(OCTET_STRING),
+    Call(CHARACTER_STRING),
+    Call(INFORMATION_OBJECT_FIELD_REFERENCE),
+    Call(ELSEWHERE_DECLARED_TYPE)
+);

@@ -1,0 +1,3 @@
+pub mod SeveralReads
+pub mod SeveralWrites
+pub mod Unchanged

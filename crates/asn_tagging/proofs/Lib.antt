@@ -1,0 +1,3 @@
+pub mod EnvironmentSums
+pub mod InPlace
+pub mod ListsUnderVariants
