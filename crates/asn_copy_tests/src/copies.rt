@@ -1,5 +1,7 @@
 //! Each copy on one tree, which it equals.
 
+ghost use Rattle.std.specs.Prelude.{◌≡◌, IfOk};
+
 use crate::comparing::{is_copied, list};
 use crate::trees::*;
 use asn_copy::{
@@ -439,8 +441,14 @@ fn of_objects(rt: HostRuntime) -> Result<(), Fail> {
     Ok(())
 }
 
+fn copy_item(alloc: Global, text: &Text) -> Mem<Text>
+    ensures { IfOk result (λ copy. copy ≡ text.now) }
+{
+    copy_text(alloc, text)
+}
+
 fn copy_texts(alloc: Global, texts: &List<Text>) -> Mem<List<Text>> {
-    copy_list(alloc, texts, copy_text)
+    copy_list(alloc, texts, copy_item)
 }
 
 fn information(alloc: Global) -> Mem<ASN1Information> {
