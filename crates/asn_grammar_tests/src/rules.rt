@@ -276,6 +276,36 @@ fn takes_rows_whole(rt: HostRuntime) {
             true,
         ),
         (
+            "enumerated",
+            "ENUMERATED { a b-c/**/d (2), ... e (170141183460469231731687303715884105725), f, g }",
+            true,
+        ),
+        (
+            "enumerated",
+            "ENUMERATED{a(170141183460469231731687303715884105727)b(- 1), ...}",
+            true,
+        ),
+        (
+            "enumerated",
+            "ENUMERATED { a(5), ..., b(170141183460469231731687303715884105727) c(0) }",
+            true,
+        ),
+        (
+            "enumerated",
+            "ENUMERATED { a, ..., b(170141183460469231731687303715884105727), c }",
+            false,
+        ),
+        (
+            "enumerated",
+            "ENUMERATED { a(170141183460469231731687303715884105727), ..., b(170141183460469231731687303715884105726)/* */c }",
+            false,
+        ),
+        (
+            "enumerated",
+            "ENUMERATED { a, ..., b--(1)--(170141183460469231731687303715884105727)--c--d }",
+            false,
+        ),
+        (
             "constraint",
             "(WITH COMPONENTS { ..., a (1) PRESENT, b OPTIONAL }) (SIZE (1))",
             true,

@@ -5,6 +5,9 @@ pub mod Total
 pub mod Trees
 pub mod Nodes
 pub mod Bare
+pub mod Items
+pub mod Numbered
+pub mod Exact
 pub mod Numbers
 pub mod Walks
 pub mod Modules

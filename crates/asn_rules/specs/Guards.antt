@@ -3,10 +3,8 @@ use Rattle.std.specs.Prelude.{ℕ, zero, suc, ◌+◌, ◌*◌, ◌-◌, ◌^◌
 use Rattle.std.specs.Option.{is_some}
 use Rattle.std.specs.List.{starts_with, list_all, list_any}
 use Rattle.std.specs.Cmp.Lexicographic.{pointwise}
-use Rattle.asn_rules.specs.Lexical.{first_in, is_digit, keywords}
+use Rattle.asn_rules.specs.Lexical.{first_in, is_digit}
 use Rattle.asn_rules.specs.declared.expression.ByteClass.TheVariants.{Blank, LineFeed}
-use Rattle.asn_rules.specs.declared.expression.Guard.{Guard}
-use Rattle.asn_rules.specs.declared.expression.Guard.TheVariants.{NoKeyword, NamesClass, FitsU64, FitsU128, FitsI128, FitsI32, IsOrdered, FitsU8, IsBase, FitsReal, IsCharacter, IsSetting, IsTime, HasLabels}
 
 -- where one stands in a text: within so many block comments, none being outside; in a line comment; or behind the
 -- first byte of a mark, whose second leads to another such place
@@ -226,20 +224,3 @@ is_time bs = list_any is_digit bs && list_any (λ b. not (is_digit b)) bs
 abbrev pub has_labels : Bool → List ℕ → Bool
 has_labels slash [] = true
 has_labels slash (b ∷ bs) = not (slash && nat_eq b 47) && has_labels (nat_eq b 47) bs
-
--- whether the guard lets pass what was taken
-abbrev pub allows : Guard → List ℕ → Bool
-allows NoKeyword taken = not (among keywords (bare taken))
-allows NamesClass taken = not (among keywords (bare taken)) || names_class (bare taken)
-allows FitsU64 taken = is_some (natural 64 (bare taken))
-allows FitsU128 taken = is_some (natural 128 (bare taken))
-allows FitsI128 taken = is_some (integer 127 (bare taken))
-allows FitsI32 taken = is_some (integer 31 (bare taken))
-allows IsOrdered taken = is_range (bare taken)
-allows FitsU8 taken = is_some (natural 8 (bare taken))
-allows IsBase taken = is_base_of (natural 128 (bare taken))
-allows FitsReal taken = is_real (bare taken)
-allows IsCharacter taken = is_character (bare taken)
-allows IsSetting taken = is_setting (bare taken)
-allows IsTime taken = is_time taken
-allows HasLabels taken = has_labels true taken

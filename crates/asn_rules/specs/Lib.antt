@@ -2,6 +2,8 @@ pub mod Marks
 pub mod Expression
 pub mod Lexical
 pub mod Guards
+pub mod Enumerations
+pub mod Allows
 pub mod Sizes
 pub mod Forms
 pub mod LexicalRules

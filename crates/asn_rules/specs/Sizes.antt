@@ -1,7 +1,9 @@
 -- Numbers, read digit by digit, and bytes outside blanks and comments, found one by one. Only private contracts cite these.
-use Rattle.std.specs.Prelude.{ℕ, ◌+◌, ◌*◌, ◌-◌, ◌^◌, List, [], ◌∷◌, Bool, true, ◌&&◌, nat_lt, Option, Some, None, if◌then◌else◌, ℤ}
+use Rattle.std.specs.Prelude.{ℕ, pos, ◌+◌, ◌*◌, ◌-◌, ◌^◌, List, [], ◌∷◌, Bool, true, ◌&&◌, ◌||◌, nat_lt, Option, Some, None, if◌then◌else◌, ℤ}
 use Rattle.asn_rules.specs.Lexical.{is_digit}
-use Rattle.asn_rules.specs.Guards.{within, is_outside, is_empty, before, mantissa, fitting}
+use Rattle.asn_rules.specs.Guards.{Place, within, onward, is_outside, is_empty, before, mantissa, fitting}
+use Rattle.asn_numbers.specs.Enumeration.{has, written}
+use Rattle.asn_rules.specs.Enumerations.{at_number, behind_item, given}
 use Rattle.asn_rules.specs.declared.guards.Stretch.{Stretch}
 use Rattle.asn_rules.specs.declared.guards.Stretch.TheVariants.{All, Before, Mantissa}
 
@@ -28,6 +30,14 @@ below bits o = at_some o (λ n. if nat_lt n (2 ^ bits) then Some n else None)
 abbrev pub narrowed : ℕ → Option ℤ → Option ℤ
 narrowed bits o = at_some o (fitting bits)
 
+-- the bytes from the first outside blanks and comments on
+unfoldable pub outside_from : Place → List ℕ → List ℕ
+outside_from p [] = []
+outside_from p (b ∷ bs) = if is_outside p (b ∷ bs) then b ∷ bs else outside_from (onward p (b ∷ bs)) bs
+
+abbrev pub outside : List ℕ → List ℕ
+outside bs = outside_from (within 0) bs
+
 -- the first of the bytes is outside blanks and comments, if there is one
 abbrev pub starts_bare : List ℕ → Bool
 starts_bare [] = true
@@ -38,3 +48,12 @@ abbrev pub part : Stretch → List ℕ → List ℕ
 part All bs = bs
 part (Before mark) bs = before mark bs
 part Mantissa bs = mantissa bs
+
+-- a number that an item of the root has: one below the end of those that are given, or one that is written
+abbrev pub is_taken : List (Option ℤ) → ℕ → ℕ → Bool
+is_taken root end n = nat_lt n end || has (written root) (pos n)
+
+-- the number behind those that the items of the root without a number are given
+abbrev pub root_end : (ℕ → Bool) → ℕ → List (Option ℤ) → Option ℕ
+root_end taken n [] = Some n
+root_end taken n (item ∷ items) = at_number (given taken n item) None (λ z. root_end taken (behind_item n item z) items)

@@ -1,6 +1,7 @@
 -- The rules of types.
 use Rattle.std.specs.Prelude.{List, ◌∷◌, codes}
-use Rattle.asn_rules.specs.Expression.{Expression, many, rule}
+use Rattle.asn_rules.specs.Expression.{Expression, guarded, many, rule}
+use Rattle.asn_rules.specs.declared.expression.Guard.TheVariants.{NumbersFit}
 use Rattle.asn_rules.specs.declared.marks.Mark.TheVariants as mark
 use Rattle.asn_rules.specs.Forms.{blank, keyword, keyword_as, maybe, some, symbol, whole_as, words, ◌¦◌, ◌·◌}
 
@@ -75,8 +76,8 @@ type_rules_before further =
     (symbol (codes "{") · many (rule 87 · maybe (symbol (codes ","))) · symbol (codes "}")) ∷
     -- 87 distinguished_val = identifier "(" number_i128 ")"
     (rule 8 · symbol (codes "(") · rule 17 · symbol (codes ")")) ∷
-    -- 88 enumerated = 'ENUMERATED' "{" enumeral_list extension_mark? enumeral_list "}"
-    (keyword (codes "ENUMERATED") · symbol (codes "{") · rule 89 · maybe (rule 63) · rule 89 · symbol (codes "}")) ∷
+    -- 88 enumerated = 'ENUMERATED' "{" enumeral_list extension_mark? enumeral_list "}" {the numbers of all items are of 128 bits}
+    (guarded (keyword (codes "ENUMERATED") · symbol (codes "{") · rule 89 · maybe (rule 63) · rule 89 · symbol (codes "}")) NumbersFit) ∷
     -- 89 enumeral_list = enumeral*
     (many (rule 90)) ∷
     -- 90 enumeral = identifier item_number? ","? item_comment?

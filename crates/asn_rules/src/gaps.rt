@@ -1,12 +1,12 @@
 //! Blanks and comments: the bytes outside them, found one by one where they lie.
 //!
-//! The guards call `next_bare`. No memory is taken.
+//! The guards and the walk over an enumeration's items call `next_bare`. No memory is taken.
 
 ghost use Rattle.std.specs.Prelude.{◌≡◌, ◌≤◌, ◌<◌, length, drop, IfSome, true, List, [], ◌∷◌};
 ghost use Rattle.std.specs.Option.{MatchOption};
-ghost use Rattle.asn_rules.specs.Guards.{bare, bare_from, in_line, within};
+ghost use Rattle.asn_rules.specs.Guards.{bare, in_line, within};
 ghost use Rattle.asn_rules.specs.Lexical.{is_blank};
-ghost use Rattle.asn_rules.specs.Sizes.{starts_bare};
+ghost use Rattle.asn_rules.specs.Sizes.{outside, outside_from, starts_bare};
 
 use crate::expression::ByteClass;
 use crate::lexical::is_in_class;
@@ -26,9 +26,9 @@ fn behind(bytes: &[u8], count: usize) -> &[u8]
 }
 
 // What follows the line comment in which these bytes begin.
-#[tactic(auto, using(crate::proofs::Bare::line_closes, crate::proofs::Bare::line_breaks, crate::proofs::Bare::line_goes_on, crate::proofs::Bare::bare_none))]
+#[tactic(auto, using(crate::proofs::Bare::line_closes, crate::proofs::Bare::line_breaks, crate::proofs::Bare::line_goes_on, crate::proofs::Bare::outside_none))]
 fn behind_line(bytes: &[u8]) -> &[u8]
-    ensures same { bare result.now ≡ bare_from in_line bytes.now }
+    ensures same { outside result.now ≡ outside_from in_line bytes.now }
     ensures shorter { length result.now ≤ length bytes.now }
 {
     let mut rest = bytes;
@@ -45,9 +45,9 @@ fn behind_line(bytes: &[u8]) -> &[u8]
 }
 
 // What follows the block comment in which these bytes begin, and those within it.
-#[tactic(auto, using(crate::proofs::Bare::block_opens, crate::proofs::Bare::block_closes, crate::proofs::Bare::block_goes_on, crate::proofs::Bare::bare_none))]
+#[tactic(auto, using(crate::proofs::Bare::block_opens, crate::proofs::Bare::block_closes, crate::proofs::Bare::block_goes_on, crate::proofs::Bare::outside_none))]
 fn behind_block(bytes: &[u8]) -> &[u8]
-    ensures same { bare result.now ≡ bare_from (within 1) bytes.now }
+    ensures same { outside result.now ≡ outside_from (within 1) bytes.now }
     ensures shorter { length result.now ≤ length bytes.now }
 {
     let mut rest = bytes;
@@ -70,8 +70,9 @@ fn behind_block(bytes: &[u8]) -> &[u8]
 }
 
 // The bytes from the first outside blanks and comments on.
-#[tactic(auto, using(crate::proofs::Bare::line_opens, crate::proofs::Bare::comment_opens, crate::proofs::Bare::blank_goes_on, crate::proofs::Bare::outside_here))]
+#[tactic(auto, using(crate::proofs::Bare::line_opens, crate::proofs::Bare::comment_opens, crate::proofs::Bare::blank_goes_on, crate::proofs::Bare::outside_here, crate::proofs::Bare::outside_none, crate::proofs::Bare::outside_stands, crate::proofs::Bare::bare_gap))]
 pub(crate) fn behind_gap(bytes: &[u8]) -> &[u8]
+    ensures value { result.now ≡ outside bytes.now }
     ensures same { bare result.now ≡ bare bytes.now }
     ensures begins { starts_bare result.now ≡ true }
     ensures shorter { length result.now ≤ length bytes.now }
@@ -94,6 +95,7 @@ pub(crate) fn behind_gap(bytes: &[u8]) -> &[u8]
 // The first byte outside blanks and comments, and what follows it.
 #[tactic(auto, using(crate::proofs::Bare::bare_byte, crate::proofs::Bare::bare_none))]
 pub(crate) fn next_bare(bytes: &[u8]) -> Option<(u8, &[u8])>
+    ensures exact { MatchOption result (outside bytes.now ≡ []) (λ next. outside bytes.now ≡ next.0 ∷ next.1.now) }
     ensures value { MatchOption result (bare bytes.now ≡ []) (λ next. bare bytes.now ≡ next.0 ∷ bare next.1.now) }
     ensures shorter { IfSome result (λ next. length next.1.now < length bytes.now) }
 {

@@ -8,9 +8,11 @@ ghost use Rattle.std.specs.Option.{MatchOption, is_some};
 ghost use Rattle.std.specs.List.{list_any};
 ghost use Rattle.std.specs.Cmp.Lexicographic.{pointwise};
 ghost use Rattle.asn_rules.specs.Lexical.{is_digit, keywords};
-ghost use Rattle.asn_rules.specs.Guards.{bare, among, is_empty, is_negative, unsigned, fitting, integer, number, natural, names_class, at_most, before, behind, is_range, allows, is_exponent_mark, mantissa, behind_exponent_mark, exponent, fits_less, is_real, is_base_of, is_scalar, with_octet, is_scalar_of, is_character, setting_words, numbered_settings, behind_word, is_numeral, is_setting, is_time, has_labels};
+ghost use Rattle.asn_rules.specs.Guards.{bare, among, is_empty, is_negative, unsigned, fitting, integer, number, natural, names_class, at_most, before, behind, is_range, is_exponent_mark, mantissa, behind_exponent_mark, exponent, fits_less, is_real, is_base_of, is_scalar, with_octet, is_scalar_of, is_character, setting_words, numbered_settings, behind_word, is_numeral, is_setting, is_time, has_labels};
+ghost use Rattle.asn_rules.specs.Allows.{allows};
 ghost use Rattle.asn_rules.specs.Sizes.{lengthened, lengthened_by, sized, below, narrowed, at_some, part};
 
+use crate::enumerations::numbers_fit;
 use crate::expression::{ByteClass, Guard};
 use crate::gaps::{behind_gap, next_bare};
 use crate::lexical::is_in_class;
@@ -140,6 +142,7 @@ pub(crate) fn is_allowed(guard: Guard, taken: &[u8]) -> bool
         Guard::IsSetting => is_setting(taken),
         Guard::IsTime => is_time(taken),
         Guard::HasLabels => has_labels(taken),
+        Guard::NumbersFit => numbers_fit(taken),
     }
 }
 
@@ -258,7 +261,7 @@ fn behind_minus(bytes: &[u8], stretch: Stretch) -> Option<&[u8]>
 }
 
 // The whole number, in all of the bytes or up to the first dot.
-fn number_of(taken: &[u8], stretch: Stretch) -> Option<i128>
+pub(crate) fn number_of(taken: &[u8], stretch: Stretch) -> Option<i128>
     ensures { result ≡ number (part stretch (bare taken.now)) }
 {
     match behind_minus(taken, stretch) {

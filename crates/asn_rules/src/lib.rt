@@ -9,6 +9,7 @@ mod constraint_rules;
 mod definition_rules;
 mod derive;
 mod due;
+mod enumerations;
 mod expression;
 mod first;
 mod forms;
@@ -30,6 +31,7 @@ mod value_rules;
 mod whole;
 
 pub use due::{DuePlace, ModulePart, due_place, one_due_place};
+pub use enumerations::fit_is_exact;
 pub use expression::{ByteClass, Expression, Guard, Sight};
 pub use grammar::{Grammar, rule_expression};
 pub use guards::{ASN1_KEYWORDS, is_keyword, natural_number, reserved_words, whole_number};

@@ -3,8 +3,8 @@
 //! The words of a row are explained in `lexical_rules.rt`; `'X'` skips blanks and comments, and then stands as a whole
 //! word, and `words(A, B)` is one of these words behind blanks and comments. `whole.rt` alone calls this file.
 
-use crate::expression::Expression::{Call, Many};
-use crate::expression::{Expression, Sight};
+use crate::expression::Expression::{Call, Guarded, Many};
+use crate::expression::{Expression, Guard, Sight};
 use crate::forms::{
     BLANK, EMPTY, GAP, choice, keyword, keyword_as, option, seq, some, symbol, words,
 };
@@ -210,14 +210,17 @@ pub(crate) static RULE_87: Expression = seq!(
     Call(NUMBER_I128),
     symbol!(b")")
 );
-// 88 enumerated = 'ENUMERATED' "{" enumeral_list extension_mark? enumeral_list "}"
-pub(crate) static RULE_88: Expression = seq!(
-    keyword!(b"ENUMERATED"),
-    symbol!(b"{"),
-    Call(ENUMERAL_LIST),
-    option!(Call(EXTENSION_MARK)),
-    Call(ENUMERAL_LIST),
-    symbol!(b"}")
+// 88 enumerated = 'ENUMERATED' "{" enumeral_list extension_mark? enumeral_list "}" {the numbers of all items are of 128 bits}
+pub(crate) static RULE_88: Expression = Guarded(
+    &seq!(
+        keyword!(b"ENUMERATED"),
+        symbol!(b"{"),
+        Call(ENUMERAL_LIST),
+        option!(Call(EXTENSION_MARK)),
+        Call(ENUMERAL_LIST),
+        symbol!(b"}")
+    ),
+    Guard::NumbersFit,
 );
 // 89 enumeral_list = enumeral*
 pub(crate) static RULE_89: Expression = Many(&Call(ENUMERAL));

@@ -3,7 +3,7 @@ use Rattle.std.proofs.Common.{◌≡◌, ℕ, ◌+◌, ◌≤◌, List, Bool, tr
 use Rattle.std.specs.Prelude.{if◌then◌else◌, slice_range}
 use Rattle.asn_rules.specs.Lexical.{stands, width}
 use Rattle.asn_rules.specs.Expression.{Expression, Sight, see, seq, choice, many, guarded, rule, skip, rule_of}
-use Rattle.asn_rules.specs.Guards.{allows}
+use Rattle.asn_rules.specs.Allows.{allows}
 use Rattle.asn_rules.specs.Runs.{Ending, ends, fails, judged, Runs, sees, seq_ends, choice_first, choice_second, many_turn, guard_judges, guard_fails, calls, skips}
 use Rattle.asn_rules.specs.declared.expression.Guard.{Guard}
 
