@@ -1,6 +1,7 @@
 //! Words and marks of ASN.1, by their names (X.680 12).
 //!
-//! Data alone: the readers of every crate above name the words that they ask for by these.
+//! Data alone, which a user of the library may name. No code of the crates stands on it; the tests compare each constant
+//! with its text.
 
 // Reserved words, in the order of `ASN1_KEYWORDS` (X.680 12.38). A space stands between two that go together.
 

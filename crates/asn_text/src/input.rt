@@ -153,7 +153,7 @@ impl<'a> Input<'a> {
     }
 
     /// What follows the first `n` bytes, with its position, in the same context. `inner().is_char_boundary(n)` tells
-    /// whether it may be asked for. The work grows with `n`.
+    /// whether it may be asked for.
     pub fn slice_from(&self, n: usize) -> Input<'a>
         requires { IsCharBoundary (shown (part_of self.now)) n }
         ensures part { part_of result ≡ part_from n (part_of self.now) }

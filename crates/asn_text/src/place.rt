@@ -12,7 +12,7 @@ pub struct Place {
     pub column: usize,
 }
 
-/// The place of the byte at `offset`. The work grows with `offset`.
+/// The place of the byte at `offset`.
 pub fn place_of(text: &[u8], offset: usize) -> Place
     requires { offset ≤ length text.now }
     ensures line { result.line ≡ line_at text.now offset }

@@ -23,7 +23,7 @@ pub struct ReportData {
 }
 
 impl ReportData {
-    /// The report of the byte at `place`, whose context begins at the one at `context`. The work grows with both.
+    /// The report of the byte at `place`, whose context begins at the one at `context`.
     pub fn at(text: &str, place: usize, context: usize, reason: &'static str) -> ReportData
         requires place_within { place ≤ length text.now }
         requires context_within { context ≤ length text.now }
