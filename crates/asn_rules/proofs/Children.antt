@@ -8,8 +8,8 @@ use Rattle.std.proofs.lemmas.Bool.{leb-true}
 use Rattle.std.proofs.lemmas.Bool.Decides.{Decides-eqb, Decides-ltb}
 use Rattle.asn_rules.specs.Expression.{Expression, see, marked, seq, choice, many, never, guarded, rule, skip, rule_of}
 use Rattle.asn_rules.specs.Derives.{Derives, node, Stand, ends_before, one_more, sees, leaves_mark, joins, takes, turns_to, repeats, idles, stops, misses, passes, stands, leaves_none}
-use Rattle.asn_rules.specs.Nodes.{child_among, child_of, first_among, first_child_of, nth_among, nth_child_of}
-use Rattle.asn_rules.specs.Children.{Grounds, by_row, by_mark, StandsBy, Is}
+use Rattle.asn_rules.specs.Nodes.{all_among, child_among, child_of, children_of, first_among, first_child_of, nth_among, nth_child_of}
+use Rattle.asn_rules.specs.Children.{AllAre, Grounds, by_row, by_mark, StandsBy, Is}
 use Rattle.asn_rules.specs.declared.marks.Mark.{Mark}
 use Rattle.asn_rules.specs.Marks.{mark_number}
 use Rattle.asn_rules.proofs.MarkNumbers.{above_rules}
@@ -460,6 +460,17 @@ module _ (rules : List Expression) (text : List ℕ) where
       go true true d again h = refl
       go true false d again h = again (k - 1) (grind (arith, d, h))
       go false u d again h = again k (omega (arith, h))
+
+  among_are : (r : ℕ) (ns : List Node) → AllStand ns → AllAre rules text r (all_among ns r)
+  among_are r [] all = tt
+  among_are r (n ∷ ns) all = go (nat_eq (out-Node n).rule r) (Decides-eqb (out-Node n).rule r).0 (among_are r ns all.1)
+    where
+      go : (t : Bool) → (t ≡ true → (out-Node n).rule ≡ r) → AllAre rules text r (all_among ns r) → AllAre rules text r (cond t (n ∷ all_among ns r) (all_among ns r))
+      go true d rest = (record { stands_by = all.0; rule_is = d refl }, rest)
+      go false d rest = rest
+
+  pub all_are : (n : Node) (r : ℕ) → StandsBy rules text n → AllAre rules text r (children_of n r)
+  all_are n r s = among_are r (out-Node n).children (kids_stand n s)
 
   pub nth_stands : (n : Node) (r k : ℕ) (o : Option (Bor Node)) → option_copied o ≡ nth_child_of n r k → StandsBy rules text n → IfSome o (λ c. Is rules text r c.now)
   nth_stands n r k None e s = tt

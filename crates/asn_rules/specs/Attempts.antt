@@ -1,4 +1,4 @@
--- What the walk over modules answers. Only private contracts cite these.
+-- What the walk over modules answers. Contracts of private calls cite these, and that of `due_place` cites `Found`.
 use Rattle.std.specs.Prelude.{ℕ, ◌≤◌, ◌<◌, List, length, Option, Some, None, Bool, true, false}
 use Rattle.asn_rules.specs.Expression.{Expression, skip}
 use Rattle.asn_rules.specs.declared.names.TheConstants.{SP}

@@ -1,5 +1,5 @@
 -- What a node is by the row of its rule.
-use Rattle.std.specs.Prelude.{◌≡◌, ◌≤◌, ℕ, List, [], length}
+use Rattle.std.specs.Prelude.{◌≡◌, ◌≤◌, ⊤, ℕ, List, [], ◌∷◌, length}
 use Rattle.asn_rules.specs.declared.marks.Mark.{Mark}
 use Rattle.asn_rules.specs.Marks.{mark_number}
 use Rattle.asn_rules.specs.Expression.{Expression, rule_of}
@@ -22,3 +22,8 @@ pub record StandsBy (rules : List Expression) (text : List ℕ) (n : Node) : Typ
 pub record Is (rules : List Expression) (text : List ℕ) (r : ℕ) (n : Node) : Type 0 where
   pub stands_by : StandsBy rules text n
   pub rule_is : (out-Node n).rule ≡ r
+
+-- And so is each of these.
+abbrev pub AllAre : List Expression → List ℕ → ℕ → List Node → Type 0
+AllAre rules text r [] = ⊤
+AllAre rules text r (n ∷ ns) = Is rules text r n × AllAre rules text r ns

@@ -34,6 +34,14 @@ nth_among (n ∷ ns) r k = cond (nat_eq (out-Node n).rule r) (cond (nat_eq k 0) 
 abbrev pub nth_child_of : Node → ℕ → ℕ → Option Node
 nth_child_of n r k = nth_among (out-Node n).children r k
 
+-- all of this rule, in order
+abbrev pub all_among : List Node → ℕ → List Node
+all_among [] r = []
+all_among (n ∷ ns) r = cond (nat_eq (out-Node n).rule r) (n ∷ all_among ns r) (all_among ns r)
+
+abbrev pub children_of : Node → ℕ → List Node
+children_of n r = all_among (out-Node n).children r
+
 abbrev pub first_among : List Node → Option Node
 first_among [] = None
 first_among (n ∷ ns) = Some n

@@ -1,9 +1,11 @@
 -- Numbers, read digit by digit, and bytes outside blanks and comments, found one by one. Only private contracts cite these.
-use Rattle.std.specs.Prelude.{ℕ, pos, ◌+◌, ◌*◌, ◌-◌, ◌^◌, List, [], ◌∷◌, Bool, true, ◌&&◌, ◌||◌, nat_lt, Option, Some, None, if◌then◌else◌, ℤ}
+use Rattle.std.specs.Prelude.{ℕ, pos, ◌+◌, ◌*◌, ◌-◌, ◌^◌, List, [], ◌∷◌, Bool, true, ◌&&◌, ◌||◌, nat_lt, Option, Some, None, if◌then◌else◌, ℤ, neg_ℤ}
 use Rattle.asn_rules.specs.Lexical.{is_digit}
 use Rattle.asn_rules.specs.Guards.{Place, within, onward, is_outside, is_empty, before, mantissa, fitting}
 use Rattle.asn_numbers.specs.Enumeration.{has, written}
 use Rattle.asn_rules.specs.Enumerations.{at_number, behind_item, given}
+use Rattle.asn_rules.specs.declared.guards.Sign.{Sign}
+use Rattle.asn_rules.specs.declared.guards.Sign.TheVariants.{Minus, Plus}
 use Rattle.asn_rules.specs.declared.guards.Stretch.{Stretch}
 use Rattle.asn_rules.specs.declared.guards.Stretch.TheVariants.{All, Before, Mantissa}
 
@@ -42,6 +44,11 @@ outside bs = outside_from (within 0) bs
 abbrev pub starts_bare : List ℕ → Bool
 starts_bare [] = true
 starts_bare (b ∷ bs) = is_outside (within 0) (b ∷ bs)
+
+-- the number of this sign and size
+abbrev pub with_sign : Sign → ℕ → ℤ
+with_sign Plus n = pos n
+with_sign Minus n = neg_ℤ (pos n)
 
 -- the part of the bytes that a walk goes over
 abbrev pub part : Stretch → List ℕ → List ℕ

@@ -10,7 +10,7 @@ ghost use Rattle.std.specs.Cmp.Lexicographic.{pointwise};
 ghost use Rattle.asn_rules.specs.Lexical.{is_digit, keywords};
 ghost use Rattle.asn_rules.specs.Guards.{bare, among, is_empty, is_negative, unsigned, fitting, integer, number, natural, names_class, at_most, before, behind, is_range, is_exponent_mark, mantissa, behind_exponent_mark, exponent, fits_less, is_real, is_base_of, is_scalar, with_octet, is_scalar_of, is_character, setting_words, numbered_settings, behind_word, is_numeral, is_setting, is_time, has_labels};
 ghost use Rattle.asn_rules.specs.Allows.{allows};
-ghost use Rattle.asn_rules.specs.Sizes.{lengthened, lengthened_by, sized, below, narrowed, at_some, part};
+ghost use Rattle.asn_rules.specs.Sizes.{lengthened, lengthened_by, sized, below, narrowed, at_some, part, with_sign};
 
 use crate::enumerations::numbers_fit;
 use crate::expression::{ByteClass, Guard};
@@ -260,35 +260,41 @@ fn behind_minus(bytes: &[u8], stretch: Stretch) -> Option<&[u8]>
     }
 }
 
-// The whole number, in all of the bytes or up to the first dot.
+// The sign of a number.
+#[derive(Clone, Copy)]
+pub(crate) enum Sign {
+    Plus,
+    Minus,
+}
+
+// The whole number that the stretch spells.
 pub(crate) fn number_of(taken: &[u8], stretch: Stretch) -> Option<i128>
     ensures { result ≡ number (part stretch (bare taken.now)) }
 {
     match behind_minus(taken, stretch) {
-        Some(digits) => sized_number(true, magnitude(digits, stretch)),
-        None => sized_number(false, magnitude(taken, stretch)),
+        Some(digits) => sized_number(Sign::Minus, magnitude(digits, stretch)),
+        None => sized_number(Sign::Plus, magnitude(taken, stretch)),
     }
 }
 
-// The number of this size, or its negative; None where there is no size.
-fn sized_number(is_negative: bool, size: Option<u128>) -> Option<i128>
-    ensures { result ≡ at_some size (λ n. fitting 127 (if is_negative then neg_ℤ (pos n) else pos n)) }
+// The number of this sign and size; None where there is no size.
+fn sized_number(sign: Sign, size: Option<u128>) -> Option<i128>
+    ensures { result ≡ at_some size (λ n. fitting 127 (with_sign sign n)) }
 {
     match size {
-        Some(size) => signed(is_negative, size),
+        Some(size) => signed(sign, size),
         None => None,
     }
 }
 
-// The number of this size, or its negative; None where it is below -2^127 or above 2^127 - 1.
+// The number of this sign and size; None where it is below -2^127 or above 2^127 - 1.
 #[tactic(auto, using(crate::proofs::Numbers::fitting_is))]
-fn signed(is_negative: bool, size: u128) -> Option<i128>
-    ensures { result ≡ fitting 127 (if is_negative then neg_ℤ (pos size) else pos size) }
+fn signed(sign: Sign, size: u128) -> Option<i128>
+    ensures { result ≡ fitting 127 (with_sign sign size) }
 {
-    if is_negative {
-        0i128.checked_sub_unsigned(size)
-    } else {
-        0i128.checked_add_unsigned(size)
+    match sign {
+        Sign::Minus => 0i128.checked_sub_unsigned(size),
+        Sign::Plus => 0i128.checked_add_unsigned(size),
     }
 }
 

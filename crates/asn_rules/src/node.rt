@@ -2,14 +2,15 @@
 //!
 //! `derive.rt` grows these, and the readers above ask them for their children.
 
-ghost use Rattle.std.specs.Prelude.{◌≡◌, ◌<◌, ℕ, List as Sequence, IfSome, IsSome};
-ghost use Rattle.asn_rules.specs.Children.{Is, StandsBy};
+ghost use Rattle.std.specs.Prelude.{◌≡◌, ◌<◌, ℕ, List as Sequence, map, IfOk, IfSome, IsSome};
+ghost use Rattle.asn_rules.specs.Children.{AllAre, Is, StandsBy};
 ghost use Rattle.asn_rules.specs.Expression.{Expression as Row};
 ghost use Rattle.asn_rules.specs.declared.node.Node.{size-Node};
 ghost use Rattle.std.specs.Option.{option_copied};
-ghost use Rattle.asn_rules.specs.Nodes.{child_of, first_child_of, nth_among, nth_child_of};
+ghost use Rattle.asn_rules.specs.Nodes.{all_among, child_of, children_of, first_child_of, nth_among, nth_child_of};
 
-use asn_memory::List;
+use asn_memory::{List, Mem};
+use std::alloc::Global;
 
 /// A rule that stands in a text, and the rules that it called there, in the order of the text.
 ///
@@ -83,6 +84,14 @@ impl Node {
         }
     }
 
+    /// All children of this rule, in order. Err where memory is wanting.
+    pub fn children_of(&self, alloc: Global, rule: u8) -> Mem<List<&Node>>
+        ensures value { IfOk result (λ found. map (λ child. child.now) found ≡ children_of self.now rule) }
+        ensures stands { (table : Sequence Row) (text : Sequence ℕ) → StandsBy table text self.now → AllAre table text rule (children_of self.now rule) }
+    {
+        all_of(alloc, self.children.as_slice(), rule)
+    }
+
     /// The first child of this rule, where there is one.
     pub fn the_child(&self, rule: u8) -> &Node
         requires { IsSome (child_of self.now rule) }
@@ -95,6 +104,18 @@ impl Node {
             None => unreachable!(),
         }
     }
+}
+
+fn all_of(alloc: Global, nodes: &[Node], rule: u8) -> Mem<List<&Node>>
+    ensures { IfOk result (λ found. map (λ node. node.now) found ≡ all_among nodes.now rule) }
+{
+    let mut found = List::new(alloc);
+    for node in nodes {
+        if node.rule == rule {
+            found.add(node)?;
+        }
+    }
+    Ok(found)
 }
 
 fn nth_of(nodes: &[Node], rule: u8, before: usize) -> Option<&Node>

@@ -5,8 +5,8 @@ use Rattle.asn_rules.specs.Guards.{fitting}
 use Rattle.asn_rules.proofs.Numbers.{fitting_is}
 use Rattle.asn_rules.proofs.guards.signed.Goals as goal
 
-pub returns-then-is_negative : goal.returns-then-is_negative
-returns-then-is_negative c = rw c.if-is_negative.true (fitting_is (pos 0 -ℤ pos c.args.size) c.checked_sub_unsigned.result c.checked_sub_unsigned.ensures ∙ ap (fitting 127) (+ℤ_idl (neg_ℤ (pos c.args.size))))
+pub returns-in-Minus : goal.returns-in-Minus
+returns-in-Minus c = rw c.in-Minus.is (fitting_is (pos 0 -ℤ pos c.args.size) c.checked_sub_unsigned.result c.checked_sub_unsigned.ensures ∙ ap (fitting 127) (+ℤ_idl (neg_ℤ (pos c.args.size))))
 
-pub returns-else-is_negative : goal.returns-else-is_negative
-returns-else-is_negative c = rw c.if-is_negative.false (fitting_is (pos (0 + c.args.size)) c.checked_add_unsigned.result c.checked_add_unsigned.ensures ∙ ap (λ n. fitting 127 (pos n)) (zero-add c.args.size))
+pub returns-in-Plus : goal.returns-in-Plus
+returns-in-Plus c = rw c.in-Plus.is (fitting_is (pos (0 + c.args.size)) c.checked_add_unsigned.result c.checked_add_unsigned.ensures ∙ ap (λ n. fitting 127 (pos n)) (zero-add c.args.size))
