@@ -1,10 +1,13 @@
 //! What no clause says: that the table and the guards are those of ASN.1, by texts with known answers.
 
-use asn_rules::names::{ASN_SPEC, BOOLEAN, IDENTIFIER, NAME_TAIL, SP, VALUE_RANGE};
+use asn_rules::names::{
+    ASN_SPEC, BOOLEAN, IDENTIFIER, NAME_LIST, NAME_TAIL, SP, VALUE_IDENTIFIER, VALUE_RANGE,
+};
 use asn_rules::{
     Grammar, MatchFault, Outcome, RuleId, TooDeep, derive_rule, is_keyword, natural_number,
     outcome_of, reader_rule, try_rule, whole_number,
 };
+use asn_text::Mem;
 use std::alloc::Global;
 
 // Whether the rule of the grammar stands at the start of the text, and takes all of it.
@@ -396,6 +399,33 @@ fn counts_calls_within_each_other(rt: HostRuntime) {
     );
     assert_eq!(rt; outcome_of(Grammar::Whole, "ab", id, 0, 4), Ok(end));
     assert_eq!(rt; outcome_of(Grammar::First, "ab", id, 0, 3), Err(TooDeep));
+}
+
+#[test]
+fn gives_all_children_of_a_rule(rt: HostRuntime) -> Mem<()> {
+    match derive_rule(
+        rt.alloc(),
+        Grammar::Whole,
+        "a, b ,c",
+        RuleId::new(NAME_LIST),
+        0,
+        512,
+    ) {
+        Ok(Some(node)) => {
+            let names = node.children_of(rt.alloc(), VALUE_IDENTIFIER)?;
+            let ends: [usize; 3] = [1, 4, 7];
+            assert!(rt;
+                names
+                    .as_slice()
+                    .iter()
+                    .map(|name| name.end)
+                    .eq(ends.iter().copied())
+            );
+            assert!(rt; node.children_of(rt.alloc(), SP)?.as_slice().is_empty());
+        }
+        _ => assert!(rt; false),
+    }
+    Ok(())
 }
 
 #[test]
