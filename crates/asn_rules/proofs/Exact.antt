@@ -1,5 +1,5 @@
 -- The guard on enumerations tells what the standard's numbers do.
-use Rattle.std.proofs.Common.{◌≡◌, SFits, ℕ, zero, suc, ◌+◌, ◌^◌, ◌<◌, ◌≤◌, List, [], ◌∷◌, ◌++◌, Bool, true, false, not, Option, Some, None, ℤ, pos, negsuc, refl, sym, ap, ◌∙◌, subst, arith, append_assoc, append-nil}
+use Rattle.std.proofs.Common.{◌≡◌, SFits, ℕ, ◌^◌, ◌<◌, List, [], ◌∷◌, ◌++◌, Bool, true, false, not, Option, Some, None, ℤ, pos, negsuc, refl, sym, subst, arith, append_assoc, append-nil}
 use Rattle.std.specs.Prelude.{⊤, ◌-◌, nat_eq, nat_lt, nat_le, ◌&&◌, if◌then◌else◌, ◌↔◌}
 use Rattle.std.specs.Int.{w128}
 use Rattle.std.proofs.lemmas.Bool.Decides.{Decides-ltb, nat_tests}
@@ -10,8 +10,8 @@ use Rattle.asn_numbers.proofs.Distinct.{none_pass}
 use Rattle.asn_rules.specs.Lexical.{in_class}
 use Rattle.asn_rules.specs.declared.expression.ByteClass.TheVariants.{Letter}
 use Rattle.asn_rules.specs.Guards.{Place, within, onward, is_outside, bare, are_digits, before, fits, number, spelled, unsigned}
-use Rattle.asn_rules.specs.Enumerations.{FitIsExact, added_items, additions_fit, at_number, behind_item, behind_name, fit_behind, given, goes_on, in_parentheses, is_among, items_from, least_free, numbers_fit, past, put_before, root_items, root_numbers}
-use Rattle.asn_rules.proofs.Numbered.{Least, least}
+use Rattle.asn_rules.specs.Enumerations.{FitIsExact, added_items, additions_fit, at_number, behind_item, behind_name, fit_behind, given, goes_on, in_parentheses, is_among, items_from, least_free, past, put_before, root_items, root_numbers}
+use Rattle.asn_rules.proofs.Numbered.{least}
 
 -- What is written is of 128 bits.
 

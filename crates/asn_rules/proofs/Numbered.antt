@@ -1,11 +1,10 @@
 -- The numbers of an enumeration, counted without memory.
-use Rattle.std.proofs.Common.{◌≡◌, SFits, ℕ, zero, suc, ◌+◌, ◌-◌, ◌^◌, ◌<◌, ◌≤◌, max, ◌⊎◌, inl, inr, List, [], ◌∷◌, ◌++◌, Bool, true, false, not, Option, Some, None, ℤ, pos, negsuc, refl, sym, ap, ◌∙◌, subst, arith}
-use Rattle.std.specs.Prelude.{⊤, nat_eq, nat_lt, nat_le, ◌&&◌, ◌||◌, if◌then◌else◌}
-use Rattle.std.specs.Int.{w128}
+use Rattle.std.proofs.Common.{◌≡◌, ℕ, zero, suc, ◌+◌, ◌-◌, ◌^◌, ◌<◌, ◌≤◌, max, ◌⊎◌, inl, inr, List, [], ◌∷◌, Bool, true, false, Option, Some, None, ℤ, pos, refl, sym, ap, ◌∙◌, subst, arith}
+use Rattle.std.specs.Prelude.{⊤, nat_eq, nat_lt, ◌||◌, if◌then◌else◌}
 use Rattle.std.specs.Ordering.{int_eq}
 use Rattle.std.proofs.lemmas.Bool.Decides.{Decides-eqb, Decides-int_eq, Decides-ltb, nat_tests}
 use Rattle.std.proofs.lemmas.Int.{ints}
-use Rattle.asn_numbers.specs.Enumeration.{has, written}
+use Rattle.asn_numbers.specs.Enumeration.{written}
 use Rattle.asn_numbers.specs.inner.Counting.{from_above, if_fits}
 use Rattle.asn_rules.specs.Sizes.{is_taken, root_end}
 use Rattle.asn_rules.specs.Enumerations.{additions_fit, at_number, behind_item, first_free, fit_behind, given, is_among, least_free, put_before, root_numbers}

@@ -65,7 +65,8 @@ pub enum Guard {
     IsTime,
     /// There is no `//` among them, nor a `/` in front, with those of blanks and comments counted.
     HasLabels,
-    /// They are an enumeration, and the numbers of all its items are of 128 bits (X.680 clause 20).
+    /// They are an enumeration, and the numbers of all its items are of 128 bits (X.680 clause 20). Blanks and comments
+    /// part its names.
     NumbersFit,
 }
 

@@ -1,4 +1,4 @@
-use Rattle.std.proofs.Common.{◌≡◌, ◌≤◌, length}
+use Rattle.std.proofs.Common.{◌≡◌, length}
 use Rattle.asn_rules.specs.Enumerations.{additions_fit, items}
 use Rattle.asn_rules.specs.Sizes.{is_taken}
 use Rattle.asn_rules.proofs.enumerations.additions_fit.Given as goal

@@ -1,4 +1,4 @@
-use Rattle.std.proofs.Common.{◌≡◌, ◌≤◌, length}
+use Rattle.std.proofs.Common.{◌≡◌, length}
 use Rattle.asn_numbers.specs.Enumeration.{has, written}
 use Rattle.asn_rules.specs.Enumerations.{items}
 use Rattle.asn_rules.proofs.enumerations.is_written.Given as goal

@@ -1,4 +1,4 @@
-use Rattle.std.proofs.Common.{◌≡◌, ◌≤◌, length}
+use Rattle.std.proofs.Common.{◌≡◌, length}
 use Rattle.asn_rules.specs.Enumerations.{items}
 use Rattle.asn_rules.specs.Sizes.{is_taken, root_end}
 use Rattle.asn_rules.proofs.enumerations.root_end.Given as goal
