@@ -1,21 +1,24 @@
 -- What numbers and tagging environments leave as it is.
 use Rattle.std.proofs.Common.{◌≡◌, ℕ, ◌+◌, List, [], ◌∷◌, ◌++◌, Option, Some, None, map, refl, sym, ap, ◌∙◌, subst}
-use Rattle.std.specs.Prelude.{is_none, count_by, nat_lt, if◌then◌else◌, ◌||◌}
+use Rattle.std.specs.Prelude.{◌↔◌, Bool, true, false, is_none, count_by, nat_lt, codes, if◌then◌else◌, ◌||◌}
 use Rattle.std.specs.List.{list_any}
 use Rattle.std.specs.Str.{bytes_eq}
 use Rattle.std.proofs.lemmas.List.Folds.{fold-map}
 use Rattle.asn_tree.specs.declared.definitions.ToplevelDefinition.{ToplevelDefinition}
 use Rattle.asn_tree.specs.declared.definitions.ToplevelDefinition.TheVariants.{TypeDef, Value, Information}
-use Rattle.asn_tree.specs.Tagging.{retagged}
 use Rattle.asn_headers.specs.declared.headers.TaggingEnvironment.{TaggingEnvironment}
-use Rattle.asn_check.specs.Meaning.{KeepsMeaning}
+use Rattle.asn_check.specs.KeptMeaning.{KeepsMeaning}
 use Rattle.asn_check.specs.Warnings.{fault_at, fault_on, of_fault, of_duplicate, warnings_on, warnings_of}
-use Rattle.asn_names.specs.Definitions.{Definitions, Module, definitions_of, see, own_type, type_of, name_of, is_named, is_duplicate, IsStanding}
+use Rattle.asn_meaning.specs.Answers.{once}
+use Rattle.asn_meaning.specs.Definitions.{built_in, type_in}
+use Rattle.asn_meaning.specs.Laws.{RetaggedTypesMeanTheSame, TagsKeepPlainForm}
+use Rattle.asn_meaning.specs.Plain.{IsPlain}
+use Rattle.asn_names.specs.Definitions.{Definitions, Module, definitions_of, last_named, name_of, is_named, is_duplicate}
 use Rattle.asn_names.specs.Faults.{is_missing, fault_of}
 use Rattle.asn_names.specs.declared.faults.Fault.TheVariants.{MissingDependency}
-use Rattle.asn_names.specs.Given.{IsGiven}
-use Rattle.asn_names.specs.Kept.{given, given_from, given_since, given_definitions}
-use Rattle.asn_names.specs.Laws.{SeesGiven, LinkedAcceptsAlike, RetaggingKeepsNames, RetaggingKeepsPlainForm}
+use Rattle.asn_names.specs.Given.{IsGiven, given, given_from, given_since, given_definitions}
+use Rattle.asn_names.specs.Laws.{LastIsGiven, LinkedDifferInTags, RetaggingKeepsNames}
+use Rattle.asn_names.specs.Linked.{AreLinked}
 use Rattle.asn_names.specs.Occurrences.{names_of}
 
 given_names : RetaggingKeepsNames → (environment : TaggingEnvironment) (home item : ℕ) (d : ToplevelDefinition) → names_of (given environment home item d) ≡ names_of d
@@ -28,25 +31,35 @@ given_name environment home item (TypeDef d) = refl
 given_name environment home item (Value d) = refl
 given_name environment home item (Information d) = refl
 
-given_typed : (environment : TaggingEnvironment) (home item : ℕ) (d : ToplevelDefinition) → is_none (type_of (given environment home item d)) ≡ is_none (type_of d)
+given_typed : (environment : TaggingEnvironment) (home item : ℕ) (d : ToplevelDefinition) → is_none (type_in (given environment home item d)) ≡ is_none (type_in d)
 given_typed environment home item (TypeDef d) = refl
 given_typed environment home item (Value d) = refl
 given_typed environment home item (Information d) = refl
 
-pub keeps : LinkedAcceptsAlike → RetaggingKeepsPlainForm → (reading : List Module) (linked : Definitions) → IsStanding (given_definitions reading) linked → KeepsMeaning reading linked
-keeps alike plain reading linked standing name d seen ty is clean free =
-    let a = alike reading linked standing name ty (ap own_type seen ∙ is) in
-    (retagged a.0 ty, a.1, a.2, plain a.0 ty)
+pub keeps : LinkedDifferInTags → RetaggedTypesMeanTheSame → TagsKeepPlainForm → (reading : List Module) (linked : Definitions) → AreLinked reading linked → KeepsMeaning reading linked
+keeps differ means plain reading linked are name d is clean free =
+    let defs = definitions_of reading in
+    let tags = differ reading linked are in
+    let m = means defs linked tags name d is in
+    let e = m.0 in
+    (e, m.1, m.4, subst (λ ty. IsPlain defs d.ty ↔ IsPlain linked ty) (sym m.3) (plain defs linked tags m.2 d.ty))
 
-module _ (sees : SeesGiven) (same_names : RetaggingKeepsNames) (reading : List Module) where
-  missing_same : (name : List ℕ) → is_missing (given_definitions reading) name ≡ is_missing (definitions_of reading) name
-  missing_same name = go (see (definitions_of reading) name) (see (given_definitions reading) name) (sees reading name)
+module _ (last : LastIsGiven) (same_names : RetaggingKeepsNames) (reading : List Module) where
+  last_missing : (name : List ℕ) → is_none (once None (last_named (given_definitions reading) name) type_in) ≡ is_none (once None (last_named (definitions_of reading) name) type_in)
+  last_missing name = go (last_named (definitions_of reading) name) (last_named (given_definitions reading) name) (last reading name)
     where
-      go : (o p : Option ToplevelDefinition) → IsGiven o p → is_none (own_type p) ≡ is_none (own_type o)
+      go : (o p : Option ToplevelDefinition) → IsGiven o p → is_none (once None p type_in) ≡ is_none (once None o type_in)
       go None None g = refl
-      go (Some d) (Some e) g = ap (λ x. is_none (type_of x)) g.3 ∙ given_typed g.0 g.1 g.2 d
+      go (Some d) (Some e) g = ap (λ x. is_none (type_in x)) g.3 ∙ given_typed g.0 g.1 g.2 d
       go (Some d) None g = absurd g
       go None (Some e) g = absurd g
+
+  missing_same : (name : List ℕ) → is_missing (given_definitions reading) name ≡ is_missing (definitions_of reading) name
+  missing_same name = go (bytes_eq name (codes "TYPE-IDENTIFIER"))
+    where
+      go : (b : Bool) → is_none (once None (if b then Some built_in else last_named (given_definitions reading) name) type_in) ≡ is_none (once None (if b then Some built_in else last_named (definitions_of reading) name) type_in)
+      go true = refl
+      go false = last_missing name
 
   any_same : (names : List (List ℕ)) → list_any (is_missing (given_definitions reading)) names ≡ list_any (is_missing (definitions_of reading)) names
   any_same [] = refl
@@ -58,7 +71,7 @@ module _ (sees : SeesGiven) (same_names : RetaggingKeepsNames) (reading : List M
       ∙ ap (λ b. if b then Some MissingDependency else None) (any_same (names_of d))
 
   fault_on_same : (name : List ℕ) → fault_on (given_definitions reading) name ≡ fault_on (definitions_of reading) name
-  fault_on_same name = go (see (definitions_of reading) name) (see (given_definitions reading) name) (sees reading name)
+  fault_on_same name = go (last_named (definitions_of reading) name) (last_named (given_definitions reading) name) (last reading name)
     where
       go : (o p : Option ToplevelDefinition) → IsGiven o p → fault_at (given_definitions reading) p ≡ fault_at (definitions_of reading) o
       go None None g = refl

@@ -1,4 +1,4 @@
 pub mod Warnings
 pub mod Linked
 pub mod Listing
-pub mod Meaning
+pub mod KeptMeaning

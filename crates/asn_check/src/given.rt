@@ -1,6 +1,6 @@
 //! Copies of a reading's definitions with their numbers and their module's tagging environment.
 
-ghost use Rattle.asn_names.specs.Kept.{given, given_definitions, given_from};
+ghost use Rattle.asn_names.specs.Given.{given, given_definitions, given_from};
 ghost use Rattle.std.specs.Prelude.{◌≡◌, ◌++◌, IfOk, OnOk};
 
 use asn_copy_trees::copy_toplevel_definition;

@@ -1,23 +1,33 @@
 //! What linking keeps, as laws: each is the contract of a function that does nothing but name the laws below it.
 
-ghost use Rattle.asn_check.specs.Meaning.{StandingKeepsMeaning, WarningsStay};
+ghost use Rattle.asn_check.specs.KeptMeaning.{LinkedKeepsMeaning, OneListOfWarnings, WarningsAreDue, WarningsStay};
 
-use asn_names::{
-    linked_accepts_alike, retagging_keeps_names, retagging_keeps_plain_form, sees_given,
-};
+use asn_meaning::{retagged_types_mean_the_same, tags_keep_plain_form};
+use asn_names::{last_is_given, linked_differ_in_tags, retagging_keeps_names};
 
-/// The definitions that stand, as linking gives them, keep the meaning of the reading's.
-pub fn standing_keeps_meaning()
-    ensures { StandingKeepsMeaning }
+/// The linked definitions of a reading keep its meaning.
+pub fn linked_keeps_meaning()
+    ensures { LinkedKeepsMeaning }
 {
-    linked_accepts_alike();
-    retagging_keeps_plain_form();
+    linked_differ_in_tags();
+    retagged_types_mean_the_same();
+    tags_keep_plain_form();
 }
 
 /// The warnings over the definitions as linking gives them are those over the reading's.
 pub fn warnings_stay()
     ensures { WarningsStay }
 {
-    sees_given();
+    last_is_given();
     retagging_keeps_names();
 }
+
+/// The warnings on the names of the linked definitions are those of the reading: exactly those that are due, in order.
+pub fn warnings_are_due()
+    ensures { WarningsAreDue }
+{}
+
+/// No two lists are the warnings over the same definitions.
+pub fn one_list_of_warnings()
+    ensures { OneListOfWarnings }
+{}

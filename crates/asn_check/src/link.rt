@@ -1,18 +1,19 @@
 //! Linking a reading.
 
-ghost use Rattle.asn_check.specs.Warnings.{said_by, warnings_of};
-ghost use Rattle.asn_check.specs.Meaning.{KeepsMeaning};
+ghost use Rattle.asn_check.specs.KeptMeaning.{KeepsMeaning};
+ghost use Rattle.asn_check.specs.Warnings.{AreWarnings, said_by, warnings_of};
 ghost use Rattle.asn_names.specs.Definitions.{definitions_of, IsStanding, name_of};
-ghost use Rattle.asn_names.specs.Kept.{given_definitions};
+ghost use Rattle.asn_names.specs.Given.{given_definitions};
+ghost use Rattle.asn_names.specs.Linked.{AreLinked};
 ghost use Rattle.std.specs.Prelude.{◌≡◌, IfOk, map};
 
 use crate::given::give_reading;
-use crate::laws::{standing_keeps_meaning, warnings_stay};
+use crate::laws::{linked_keeps_meaning, warnings_are_due, warnings_stay};
 use crate::linked::Linked;
 use crate::warnings::warnings_on_all;
 use asn_copy_trees::{copy_module_reference, copy_toplevel_definition};
 use asn_memory::{List, Mem};
-use asn_names::Names;
+use asn_names::{Names, standing_are_linked};
 use asn_tree::{ModuleReference, Reading, ToplevelDefinition};
 use std::alloc::Global;
 
@@ -61,12 +62,14 @@ fn link_parts(alloc: Global, reading: &Reading) -> Mem<Linked>
 /// read, with its numbers and its module's tagging environment.
 pub fn link_reading(alloc: Global, reading: &Reading) -> Mem<Linked>
     ensures modules { IfOk result (λ linked. linked.modules ≡ map (λ m. m.0) reading.now) }
-    ensures definitions { IfOk result (λ linked. IsStanding (given_definitions reading.now) linked.definitions) }
-    ensures warnings { IfOk result (λ linked. map said_by linked.warnings ≡ warnings_of (definitions_of reading.now) (map name_of linked.definitions)) }
+    ensures definitions { IfOk result (λ linked. AreLinked reading.now linked.definitions) }
+    ensures warnings { IfOk result (λ linked. AreWarnings (definitions_of reading.now) (map said_by linked.warnings)) }
     ensures meaning { IfOk result (λ linked. KeepsMeaning reading.now linked.definitions) }
 {
-    standing_keeps_meaning();
+    standing_are_linked();
+    linked_keeps_meaning();
     warnings_stay();
+    warnings_are_due();
     let linked = link_parts(alloc, reading)?;
     Ok(linked)
 }

@@ -59,7 +59,7 @@ fn warn_of_fault(
 fn standing_fault(names: &Names<'_>, name: &str) -> Option<Fault>
     ensures { result ≡ fault_on names.now.definitions.now name.now }
 {
-    match names.see(name) {
+    match names.last_named(name) {
         Some(definition) => names.fault(definition),
         None => None,
     }

@@ -8,22 +8,26 @@ use Rattle.asn_tree.specs.declared.constraints.Constraint.{Constraint, Constrain
 use Rattle.asn_tree.specs.declared.constraints.ElementOrSetOperation.{ElementOrSetOperation, ElementOrSetOperation-F, out-ElementOrSetOperation}
 use Rattle.asn_tree.specs.declared.constraints.SubtypeElement.{SubtypeElement, SubtypeElement-F, out-SubtypeElement}
 use Rattle.asn_tree.specs.declared.definitions.ToplevelDefinition.{ToplevelDefinition}
+use Rattle.asn_tree.specs.declared.definitions.ToplevelDefinition.TheVariants.{TypeDef}
+use Rattle.asn_tree.specs.declared.definitions.ToplevelTypeDefinition.{ToplevelTypeDefinition}
 use Rattle.asn_tree.specs.declared.types.ASN1Type.{ASN1Type, ASN1Type-F, out-ASN1Type}
 use Rattle.asn_tree.specs.declared.types.SequenceOrSet.{out-SequenceOrSet}
 use Rattle.asn_tree.specs.declared.types.SequenceOrSetMember.{SequenceOrSetMember, out-SequenceOrSetMember}
 use Rattle.asn_tree.specs.declared.values.ASN1Value.{ASN1Value, out-ASN1Value}
 use Rattle.asn_names.specs.declared.faults.Fault.TheVariants.{MissingDependency}
 use Rattle.asn_names.specs.Answers.{Answer, Yes, No, Unknown, both, answer_of, IsKnown}
-use Rattle.asn_names.specs.Definitions.{Definitions, see, or_else, is_named, own_type, type_of}
+use Rattle.asn_meaning.specs.Definitions.{see, type_named}
+use Rattle.asn_names.specs.Definitions.{Definitions, is_named, last_named, type_of}
 use Rattle.asn_names.specs.Faults.{IsClean, IsSpotless, is_missing}
 use Rattle.asn_names.specs.Judge.{OfType, OfConstraint, OfOperation, OfElement, constrained, is_truth_value, is_whole_number, is_member, known_fields, is_addition, may_be_absent, member_at, members_at, fields_at, defined_place, place_at, end_at, compared, number_of, constraint_at, operation_at, element_at, range_at, type_at, step, judge}
 use Rattle.asn_names.specs.Laws.{is_head, is_head_at, AreHeads}
 use Rattle.asn_names.specs.Layers.{TypeLayer, StructLayer, MemberLayer, ConstraintLayer, SetLayer, ElementLayer}
-use Rattle.asn_names.specs.Meaning.{IsDecided}
+use Rattle.asn_names.specs.Decided.{IsDecided}
 use Rattle.asn_names.specs.Occurrences.{names_in, members_names, names_of, Reaches, occurs, goes_on}
 use Rattle.asn_names.specs.Scopes.{Scope, Empty}
 use Rattle.asn_names.specs.ValueTrees.{ValueTree, TruthValue, WholeNumber, Struct, Fields, no_field, field, field_named}
 use Rattle.asn_names.proofs.Occurrences.{level_names, names_are, names_is}
+use Rattle.asn_names.proofs.Seen.{or_else, type_is_last, type_is_seen}
 
 -- answers
 both_known : (a b : Answer) → IsKnown a → IsKnown b → IsKnown (both a b)
@@ -127,35 +131,31 @@ module _ (defs : Definitions) where
 
 -- no name is missing in what a clean definition reaches
 module _ (defs : Definitions) (heads : AreHeads defs) (d : ToplevelDefinition) (clean : IsClean defs d) where
-  -- a name's definition with its type
-  abbrev Typed : Option ToplevelDefinition → Type 0
-  Typed o = (e : ToplevelDefinition) × (o ≡ Some e) × (ty : ASN1Type) × (type_of e ≡ Some ty)
+  -- a type stands for a name
+  abbrev Typed : Option ToplevelTypeDefinition → Type 0
+  Typed o = (e : ToplevelTypeDefinition) × (o ≡ Some e)
 
-  is_seen : (o : Option ToplevelDefinition) → is_none (own_type o) ≡ false → Typed o
-  is_seen None h = absurd cc
-  is_seen (Some e) h = let typed = is_typed (type_of e) h in (e, refl, typed.0, typed.1)
-    where
-      is_typed : (o : Option ASN1Type) → is_none o ≡ false → (ty : ASN1Type) × (o ≡ Some ty)
-      is_typed None h = absurd cc
-      is_typed (Some ty) h = (ty, refl)
+  is_typed : (o : Option ToplevelTypeDefinition) → is_none o ≡ false → Typed o
+  is_typed None h = absurd cc
+  is_typed (Some e) h = (e, refl)
 
   none_missing : (b : Bool) → (if b then Some MissingDependency else None) ≡ None → b ≡ false
   none_missing true h = absurd cc
   none_missing false h = refl
 
-  spotless_seen : (e : ToplevelDefinition) → IsSpotless defs e → (x : List ℕ) → Contains (names_of e) x → Typed (see defs x)
-  spotless_seen e spotless x c = is_seen (see defs x) (any_false (is_missing defs) (names_of e) x c (none_missing _ spotless.faultless))
+  spotless_seen : (e : ToplevelDefinition) → IsSpotless defs e → (x : List ℕ) → Contains (names_of e) x → Typed (type_named defs x)
+  spotless_seen e spotless x c = is_typed (type_named defs x) (any_false (is_missing defs) (names_of e) x c (none_missing _ spotless.faultless))
 
-  reached_seen : (x : List ℕ) → Reaches defs d x → Typed (see defs x)
+  reached_seen : (x : List ℕ) → Reaches defs d x → Typed (type_named defs x)
   reached_seen x (occurs c) = spotless_seen d clean.itself x c
   reached_seen x (goes_on {x = z} {e = e} r s c) = spotless_seen e (clean.reached z e r s) x c
 
   abbrev IsHead : ToplevelDefinition → Type 0
   IsHead e = is_head_at (type_of e) ≡ true
 
-  seen_head : (ds : Definitions) → All IsHead ds → (x : List ℕ) (e : ToplevelDefinition) → see ds x ≡ Some e → IsHead e
+  seen_head : (ds : Definitions) → All IsHead ds → (x : List ℕ) (e : ToplevelDefinition) → last_named ds x ≡ Some e → IsHead e
   seen_head [] all x e h = absurd cc
-  seen_head (y ∷ ds) all x e h = go (see ds x) (is_named x y) (seen_head ds (All-tail IsHead y ds all) x e) h
+  seen_head (y ∷ ds) all x e h = go (last_named ds x) (is_named x y) (seen_head ds (All-tail IsHead y ds all) x e) h
     where
       go : (o : Option ToplevelDefinition) (b : Bool) → (o ≡ Some e → IsHead e) → or_else o (if b then Some y else None) ≡ Some e → IsHead e
       go (Some z) b later h = later h
@@ -215,13 +215,13 @@ module _ (defs : Definitions) (heads : AreHeads defs) (d : ToplevelDefinition) (
   layer_decided t below (ASN1Type-F.ElsewhereDeclaredType x) within =
       let r : Reaches defs d x.identifier = within x.identifier (0, omega arith, refl) in
       let seen = reached_seen x.identifier r in
-      let e = seen.0 in
-      let ty = seen.2 in
-      let inside : Within (level_names (out-ASN1Type ty)) = λ n c. goes_on r seen.1 (subst (λ ns. Contains ns n) (sym (names_are e ty seen.3 ∙ names_is ty)) c) in
-      let head : is_head (out-ASN1Type ty) ≡ true = sym (ap is_head_at seen.3) ∙ seen_head defs heads x.identifier e seen.1 in
+      let e : ToplevelDefinition = TypeDef seen.0 in
+      let ty = seen.0.ty in
+      let inside : Within (level_names (out-ASN1Type ty)) = λ n c. goes_on r (type_is_seen defs x.identifier seen.0 seen.1) (subst (λ ns. Contains ns n) (sym (names_is ty)) c) in
+      let head : is_head (out-ASN1Type ty) ≡ true = seen_head defs heads x.identifier e (type_is_last defs x.identifier seen.0 seen.1) in
       let p = stepped ty t (head_decided t below (out-ASN1Type ty) inside head) in
       both_decided defs _ _
-      (subst (λ o. Decided defs (λ k. place_at (judge defs k) (defined_place o) t)) (sym (ap own_type seen.1 ∙ seen.3)) p)
+      (subst (λ o. Decided defs (λ k. place_at (judge defs k) (defined_place o) t)) (sym seen.1) p)
       (constraints_decided defs x.constraints t)
   layer_decided t below l within = head_decided t below l within refl
 

@@ -6,14 +6,16 @@ use Rattle.asn_tree.specs.declared.types.ASN1Type.{ASN1Type, ASN1Type-F, roll-AS
 use Rattle.asn_tree.specs.declared.types.SequenceOrSet.{SequenceOrSet, roll-SequenceOrSet, out-roll-SequenceOrSet}
 use Rattle.asn_tree.specs.declared.types.SequenceOrSetMember.{SequenceOrSetMember, roll-SequenceOrSetMember, out-roll-SequenceOrSetMember}
 use Rattle.asn_tree.specs.Folds.{Algebra, of_member, of_struct, of_type, member_is, member_read, struct_is, struct_read, type_is, type_read}
-use Rattle.asn_tree.specs.Passes.{member_rewritten, rewritten_member, rewritten_struct, rewritten_type, struct_parts, struct_rewritten, type_parts, type_rewritten}
-use Rattle.asn_tree.specs.Tagging.{retagging, retagged}
+use Rattle.asn_tree.specs.Passes.{member_parts, member_rewritten, rewritten_member, rewritten_struct, rewritten_type, struct_parts, struct_rewritten, type_parts, type_rewritten}
+use Rattle.asn_tree.specs.Tagging.{retag, retagging, retagged}
 use Rattle.asn_tree.specs.Inductions.{Shown, proved, bare_type, bare_struct, bare_member, each_type}
 use Rattle.asn_tree.specs.Layers.{TypeOver, StructOver, MemberOver, StructOf, MemberOf}
 use Rattle.asn_names.specs.Layers.{TypeLayer, StructLayer, MemberLayer}
-use Rattle.asn_names.specs.Meaning.{plainness, is_plain}
 use Rattle.asn_names.specs.Occurrences.{naming, names_in}
-use Rattle.asn_names.proofs.Retagged.{member_layer}
+
+-- one level of a member, retagged
+abbrev member_layer : TaggingEnvironment → MemberLayer → MemberLayer
+member_layer e x = record (member_parts (retagging e) x) { tag = retag e x.tag }
 
 module _ (e : TaggingEnvironment) {A : Type 0} (a : Algebra A) where
   abbrev TypeSame : ASN1Type → Type 0
@@ -92,13 +94,5 @@ unfolding names_in
 names_kept e ty = same e naming flat (λ s cs. refl) (λ m tag default cs. refl) ty
   where
     flat : (l : TypeLayer) → Flat e naming l
-    flat (ASN1Type-F.Sequence s) = tt
-    flat _ = refl
-
-pub plain_kept : (e : TaggingEnvironment) (ty : ASN1Type) → is_plain (retagged e ty) ≡ is_plain ty
-unfolding is_plain
-plain_kept e ty = same e plainness flat (λ s cs. refl) (λ m tag default cs. refl) ty
-  where
-    flat : (l : TypeLayer) → Flat e plainness l
     flat (ASN1Type-F.Sequence s) = tt
     flat _ = refl

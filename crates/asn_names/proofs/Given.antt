@@ -1,27 +1,13 @@
--- What a name stands for in a reading is what it stands for among the given definitions, as given.
+-- The last definition of a name among the given ones is the last of the name in the reading, as linking gives it.
 use Rattle.std.proofs.Common.{◌≡◌, ℕ, ◌+◌, List, [], ◌∷◌, ◌++◌, true, false, Bool, Option, Some, None, refl, sym, ap, ◌∙◌, subst}
 use Rattle.std.specs.Prelude.{if◌then◌else◌}
 use Rattle.std.specs.Str.{bytes_eq}
 use Rattle.asn_tree.specs.declared.definitions.ToplevelDefinition.{ToplevelDefinition}
 use Rattle.asn_tree.specs.declared.definitions.ToplevelDefinition.TheVariants.{TypeDef, Value, Information}
 use Rattle.asn_headers.specs.declared.headers.TaggingEnvironment.{TaggingEnvironment}
-use Rattle.asn_names.specs.Definitions.{Definitions, Module, definitions_of, name_of, is_named, or_else, see}
-use Rattle.asn_names.specs.Given.{IsGiven}
-use Rattle.asn_names.specs.Kept.{given, given_from, given_since, given_definitions}
-
-or_else_through : (a b c : Option ToplevelDefinition) → or_else (or_else a b) c ≡ or_else a (or_else b c)
-or_else_through (Some d) b c = refl
-or_else_through None b c = refl
-
-or_else_none : (a : Option ToplevelDefinition) → or_else a None ≡ a
-or_else_none (Some d) = refl
-or_else_none None = refl
-
-see_append : (xs ys : Definitions) (name : List ℕ) → see (xs ++ ys) name ≡ or_else (see ys name) (see xs name)
-see_append [] ys name = sym (or_else_none (see ys name))
-see_append (x ∷ xs) ys name =
-    let here = if is_named name x then Some x else None in
-    ap (λ o. or_else o here) (see_append xs ys name) ∙ or_else_through (see ys name) (see xs name) here
+use Rattle.asn_names.specs.Definitions.{Definitions, Module, definitions_of, name_of, is_named, last_named}
+use Rattle.asn_names.specs.Given.{IsGiven, given, given_from, given_since, given_definitions}
+use Rattle.asn_names.proofs.Seen.{last_append, or_else}
 
 or_else_given : (a b c d : Option ToplevelDefinition) → IsGiven a b → IsGiven c d → IsGiven (or_else a c) (or_else b d)
 or_else_given None None c d p q = q
@@ -45,17 +31,17 @@ here_given e home item name d = subst (λ n. IsGiven (here d d) (if bytes_eq n n
     go true = (e, home, item, refl)
     go false = tt
 
-module_given : (e : TaggingEnvironment) (home item : ℕ) (name : List ℕ) (ds : Definitions) → IsGiven (see ds name) (see (given_from e home item ds) name)
+module_given : (e : TaggingEnvironment) (home item : ℕ) (name : List ℕ) (ds : Definitions) → IsGiven (last_named ds name) (last_named (given_from e home item ds) name)
 module_given e home item name [] = tt
 module_given e home item name (d ∷ ds) = or_else_given _ _ _ _ (module_given e home (item + 1) name ds) (here_given e home item name d)
 
-modules_given : (home : ℕ) (name : List ℕ) (ms : List Module) → IsGiven (see (definitions_of ms) name) (see (given_since home ms) name)
+modules_given : (home : ℕ) (name : List ℕ) (ms : List Module) → IsGiven (last_named (definitions_of ms) name) (last_named (given_since home ms) name)
 modules_given home name [] = tt
 modules_given home name (m ∷ ms) =
     let given_here = given_from m.0.tagging_environment home 0 m.1 in
-    subst (λ o. IsGiven o (see (given_since home (m ∷ ms)) name)) (sym (see_append m.1 (definitions_of ms) name))
-    (subst (λ o. IsGiven (or_else (see (definitions_of ms) name) (see m.1 name)) o) (sym (see_append given_here (given_since (home + 1) ms) name))
+    subst (λ o. IsGiven o (last_named (given_since home (m ∷ ms)) name)) (sym (last_append name m.1 (definitions_of ms)))
+    (subst (λ o. IsGiven (or_else (last_named (definitions_of ms) name) (last_named m.1 name)) o) (sym (last_append name given_here (given_since (home + 1) ms)))
     (or_else_given _ _ _ _ (modules_given (home + 1) name ms) (module_given m.0.tagging_environment home 0 name m.1)))
 
-pub see_given : (reading : List Module) (name : List ℕ) → IsGiven (see (definitions_of reading) name) (see (given_definitions reading) name)
-see_given reading name = modules_given 0 name reading
+pub last_given : (reading : List Module) (name : List ℕ) → IsGiven (last_named (definitions_of reading) name) (last_named (given_definitions reading) name)
+last_given reading name = modules_given 0 name reading

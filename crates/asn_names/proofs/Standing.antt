@@ -15,39 +15,27 @@ use Rattle.std.proofs.lemmas.List.Elements.{All-head, All-tail}
 use Rattle.std.proofs.lemmas.Map.Text.{is_eq-slice_cmp}
 use Rattle.std.proofs.lemmas.Slice.Eq.{bytes_eq-Decides}
 use Rattle.asn_tree.specs.declared.definitions.ToplevelDefinition.{ToplevelDefinition}
-use Rattle.asn_names.specs.declared.names.Place.{Place}
-use Rattle.asn_names.specs.Definitions.{Definitions, see, or_else, is_named, name_of, IsStanding}
+use Rattle.asn_names.specs.declared.names.LastPlace.{LastPlace}
+use Rattle.asn_names.specs.Definitions.{Definitions, last_named, is_named, name_of, IsStanding}
 use Rattle.asn_names.specs.Index.{IsIndexOf, found_at, before}
-use Rattle.asn_names.proofs.Places.{Tells, IsThere, tells}
+use Rattle.asn_names.proofs.LastPlaces.{Tells, IsThere, tells}
+use Rattle.asn_names.proofs.Seen.{last_is_named, or_else, or_else_none}
 
--- what a name stands for has the name
-see_named : (q : List ℕ) (ds : Definitions) (d : ToplevelDefinition) → see ds q ≡ Some d → is_named q d ≡ true
-see_named q [] d e = absurd cc
-see_named q (x ∷ ds) d e = go (see_named q ds d) (see ds q) refl e
-  where
-    here : (b : Bool) → is_named q x ≡ b → (if b then Some x else None) ≡ Some d → is_named q d ≡ true
-    here true t h = let same : x ≡ d = cc in ap (is_named q) (sym same) ∙ t
-    here false t h = absurd cc
-
-    go : (see ds q ≡ Some d → is_named q d ≡ true) → (o : Option ToplevelDefinition) → see ds q ≡ o → or_else o (if is_named q x then Some x else None) ≡ Some d → is_named q d ≡ true
-    go later None t h = here (is_named q x) refl h
-    go later (Some y) t h = later (t ∙ h)
-
-module _ (defs : Definitions) (index : BTreeMap (String Global) Place) (is : IsIndexOf defs index) where
+module _ (defs : Definitions) (index : BTreeMap (String Global) LastPlace) (is : IsIndexOf defs index) where
   -- an entry of the map, by what the map answers for its key
-  abbrev Entry : String Global × Place → Type 0
+  abbrev Entry : String Global × LastPlace → Type 0
   Entry e = get string_cmp index e.0 ≡ Some e.1
 
   -- the definition of an entry's key
-  at_entry : (e : String Global × Place) → Entry e → (d : ToplevelDefinition) × (slice_get defs e.1.at ≡ Some d) × (see defs (string_bytes e.0) ≡ Some d) × (name_of d ≡ string_bytes e.0)
+  at_entry : (e : String Global × LastPlace) → Entry e → (d : ToplevelDefinition) × (slice_get defs e.1.at ≡ Some d) × (last_named defs (string_bytes e.0) ≡ Some d) × (name_of d ≡ string_bytes e.0)
   at_entry e h =
       let q = string_bytes e.0 in
       let there : IsThere q defs e.1 = subst (Tells q defs) (sym (is q) ∙ h) (tells q defs) in
       let d = there.some.0 in
-      let named : is_named q d ≡ true = see_named q defs d there.some.1 in
+      let named : is_named q d ≡ true = last_is_named q defs d there.some.1 in
       (d, there.seen ∙ there.some.1, there.some.1, (bytes_eq-Decides (name_of d) q).0 named)
 
-  names_found : (es : List (String Global × Place)) → All Entry es → map name_of (found_at defs es) ≡ map string_bytes (keys_of es)
+  names_found : (es : List (String Global × LastPlace)) → All Entry es → map name_of (found_at defs es) ≡ map string_bytes (keys_of es)
   names_found [] h = refl
   names_found (e ∷ es) h =
       let a = at_entry e (All-head Entry e es h) in
@@ -58,11 +46,11 @@ module _ (defs : Definitions) (index : BTreeMap (String Global) Place) (is : IsI
   abbrev asks : List ℕ → String Global → Bool
   asks q = is_at (λ k. slice_cmp nat_cmp q (string_bytes k))
 
-  found : (q : List ℕ) (es : List (String Global × Place)) → All Entry es → see (found_at defs es) q ≡ cond (is_some (lookup (asks q) es)) (see defs q) None
+  found : (q : List ℕ) (es : List (String Global × LastPlace)) → All Entry es → last_named (found_at defs es) q ≡ cond (is_some (lookup (asks q) es)) (last_named defs q) None
   found q [] h = refl
-  found q (e ∷ es) h = ap (λ o. see (before o (found_at defs es)) q) a.1 ∙ go (asks q e.0) refl (found q es (All-tail Entry e es h))
+  found q (e ∷ es) h = ap (λ o. last_named (before o (found_at defs es)) q) a.1 ∙ go (asks q e.0) refl (found q es (All-tail Entry e es h))
     where
-      a : (d : ToplevelDefinition) × (slice_get defs e.1.at ≡ Some d) × (see defs (string_bytes e.0) ≡ Some d) × (name_of d ≡ string_bytes e.0)
+      a : (d : ToplevelDefinition) × (slice_get defs e.1.at ≡ Some d) × (last_named defs (string_bytes e.0) ≡ Some d) × (name_of d ≡ string_bytes e.0)
       a = at_entry e (All-head Entry e es h)
 
       -- the key passes exactly where the definition has the name
@@ -78,32 +66,28 @@ module _ (defs : Definitions) (index : BTreeMap (String Global) Place) (is : IsI
               both true false s t = let e = (bytes_eq-Decides ys xs).1 (sym ((bytes_eq-Decides xs ys).0 s)) in absurd cc
               both false true s t = let e = (bytes_eq-Decides xs ys).1 (sym ((bytes_eq-Decides ys xs).0 t)) in absurd cc
 
-      stands : asks q e.0 ≡ true → see defs q ≡ Some a.0
+      stands : asks q e.0 ≡ true → last_named defs q ≡ Some a.0
       stands t =
           let key : q ≡ string_bytes e.0 = (bytes_eq-Decides q (string_bytes e.0)).0 (sym (is_eq-slice_cmp q (string_bytes e.0)) ∙ t) in
-          ap (see defs) key ∙ a.2
+          ap (last_named defs) key ∙ a.2
 
-      there : (b : Bool) → see (found_at defs es) q ≡ cond b (see defs q) None → see defs q ≡ Some a.0 → or_else (see (found_at defs es) q) (Some a.0) ≡ see defs q
+      there : (b : Bool) → last_named (found_at defs es) q ≡ cond b (last_named defs q) None → last_named defs q ≡ Some a.0 → or_else (last_named (found_at defs es) q) (Some a.0) ≡ last_named defs q
       there true p s = ap (λ o. or_else o (Some a.0)) (p ∙ s) ∙ sym s
       there false p s = ap (λ o. or_else o (Some a.0)) p ∙ sym s
 
-      none : (o : Option ToplevelDefinition) → or_else o None ≡ o
-      none None = refl
-      none (Some x) = refl
-
-      go : (b : Bool) → asks q e.0 ≡ b → see (found_at defs es) q ≡ cond (is_some (lookup (asks q) es)) (see defs q) None → or_else (see (found_at defs es) q) (if is_named q a.0 then Some a.0 else None) ≡ cond (is_some (cond b (Some e.1) (lookup (asks q) es))) (see defs q) None
+      go : (b : Bool) → asks q e.0 ≡ b → last_named (found_at defs es) q ≡ cond (is_some (lookup (asks q) es)) (last_named defs q) None → or_else (last_named (found_at defs es) q) (if is_named q a.0 then Some a.0 else None) ≡ cond (is_some (cond b (Some e.1) (lookup (asks q) es))) (last_named defs q) None
       go true t p =
-          ap (λ c. or_else (see (found_at defs es) q) (if c then Some a.0 else None)) (same ∙ t)
+          ap (λ c. or_else (last_named (found_at defs es) q) (if c then Some a.0 else None)) (same ∙ t)
           ∙ there (is_some (lookup (asks q) es)) p (stands t)
       go false t p =
-          ap (λ c. or_else (see (found_at defs es) q) (if c then Some a.0 else None)) (same ∙ t)
-          ∙ none (see (found_at defs es) q)
+          ap (λ c. or_else (last_named (found_at defs es) q) (if c then Some a.0 else None)) (same ∙ t)
+          ∙ or_else_none (last_named (found_at defs es) q)
           ∙ p
 
-  all_found : (q : List ℕ) → cond (is_some (get_by_text index q)) (see defs q) None ≡ see defs q
+  all_found : (q : List ℕ) → cond (is_some (get_by_text index q)) (last_named defs q) None ≡ last_named defs q
   all_found q = go (get_by_text index q) refl
     where
-      go : (o : Option Place) → get_by_text index q ≡ o → cond (is_some o) (see defs q) None ≡ see defs q
+      go : (o : Option LastPlace) → get_by_text index q ≡ o → cond (is_some o) (last_named defs q) None ≡ last_named defs q
       go (Some p) e = refl
       go None e = let t = subst (Tells q defs) (sym (is q) ∙ e) (tells q defs) in sym t.unseen
 

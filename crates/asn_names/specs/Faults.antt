@@ -4,7 +4,8 @@ use Rattle.std.specs.List.{list_any}
 use Rattle.asn_tree.specs.declared.definitions.ToplevelDefinition.{ToplevelDefinition}
 use Rattle.asn_names.specs.declared.faults.Fault.{Fault}
 use Rattle.asn_names.specs.declared.faults.Fault.TheVariants.{MissingDependency}
-use Rattle.asn_names.specs.Definitions.{Definitions, see, type_named, name_of, is_duplicate}
+use Rattle.asn_meaning.specs.Definitions.{see, type_named}
+use Rattle.asn_names.specs.Definitions.{Definitions, name_of, is_duplicate}
 use Rattle.asn_names.specs.Occurrences.{names_of, Reaches}
 
 -- whether the name stands for no type

@@ -4,12 +4,14 @@ use Rattle.std.specs.Str.{bytes_eq}
 use Rattle.asn_tree.specs.declared.constraints.Constraint.{Constraint, Constraint-F, out-Constraint}
 use Rattle.asn_tree.specs.declared.constraints.ElementOrSetOperation.{ElementOrSetOperation, ElementOrSetOperation-F, out-ElementOrSetOperation}
 use Rattle.asn_tree.specs.declared.constraints.SubtypeElement.{SubtypeElement, SubtypeElement-F, out-SubtypeElement}
+use Rattle.asn_tree.specs.declared.definitions.ToplevelTypeDefinition.{ToplevelTypeDefinition}
 use Rattle.asn_tree.specs.declared.types.ASN1Type.{ASN1Type, ASN1Type-F, out-ASN1Type}
 use Rattle.asn_tree.specs.declared.types.SequenceOrSet.{out-SequenceOrSet}
 use Rattle.asn_tree.specs.declared.types.SequenceOrSetMember.{SequenceOrSetMember, out-SequenceOrSetMember}
 use Rattle.asn_tree.specs.declared.values.ASN1Value.{ASN1Value, ASN1Value-F, out-ASN1Value}
 use Rattle.asn_names.specs.Answers.{Answer, Yes, No, Unknown, both, answer_of, each}
-use Rattle.asn_names.specs.Definitions.{Definitions, type_named}
+use Rattle.asn_meaning.specs.Definitions.{type_named}
+use Rattle.asn_names.specs.Definitions.{Definitions}
 use Rattle.asn_names.specs.Layers.{TypeLayer, StructLayer, MemberLayer, BooleanLayer, IntegerLayer, ReferenceLayer, ConstraintLayer, SetLayer, ElementLayer, ValueLayer}
 use Rattle.asn_names.specs.Scopes.{Scope, Empty, Place}
 use Rattle.asn_names.specs.ValueTrees.{ValueTree, TruthValue, WholeNumber, Struct, Fields, no_field, field, field_named}
@@ -83,9 +85,9 @@ abbrev pub struct_at : Judging → Scope → ValueTree → StructLayer → Answe
 struct_at J scope t x = both (fields_at J scope t x) (constrained J scope x.constraints t)
 
 -- a definition's type, to be read in the empty scope
-abbrev pub defined_place : Option ASN1Type → Option Place
+abbrev pub defined_place : Option ToplevelTypeDefinition → Option Place
 defined_place None = None
-defined_place (Some ty) = Some (record { scope = Empty; ty = ty })
+defined_place (Some d) = Some (record { scope = Empty; ty = d.ty })
 
 -- where a type reference leads (X.680 14.1)
 abbrev pub place_of : Definitions → Scope → ReferenceLayer → Option Place

@@ -7,7 +7,8 @@ use Rattle.asn_tree.specs.declared.types.ASN1Type.{ASN1Type, ASN1Type-F}
 use Rattle.asn_tree.specs.declared.types.SequenceOrSet.{SequenceOrSet-F}
 use Rattle.asn_tree.specs.declared.types.SequenceOrSetMember.{SequenceOrSetMember, SequenceOrSetMember-F, out-SequenceOrSetMember}
 use Rattle.asn_tree.specs.Folds.{Algebra, constant, of_type}
-use Rattle.asn_names.specs.Definitions.{Definitions, see}
+use Rattle.asn_meaning.specs.Definitions.{see}
+use Rattle.asn_names.specs.Definitions.{Definitions}
 
 abbrev pub Names : Type 0
 Names = List (List ℕ)

@@ -266,7 +266,7 @@ fn judge_reference(
     ensures { result ≡ place_at (judge names.now.definitions.now steps) (place_of names.now.definitions.now Empty reference.now) (shown tree.now) }
 {
     match names.type_named(reference.identifier.as_str()) {
-        Some(ty) => judge_type(names, ty, tree, steps),
+        Some(definition) => judge_type(names, &definition.ty, tree, steps),
         None => Answer::Unknown,
     }
 }

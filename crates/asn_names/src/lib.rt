@@ -1,22 +1,22 @@
-//! What names mean: which definition a name stands for, what a definition reaches, what is wrong with it, and which
-//! value trees a type accepts.
+//! Names: which definition a name stands for, what a definition reaches, what is wrong with it, and what the linked
+//! definitions of a reading are. A plain judge beside them serves tests.
 //!
-//! It stands on the trees and rewrites nothing: names are looked up, one tree at a time is judged. The definitions
-//! of meaning stand in specs/, where the layers above cite them.
+//! It stands on the trees and on their meaning (asn_meaning), and rewrites nothing: names are looked up, one tree at a
+//! time is judged. The layers above cite the definitions in specs/.
 #![tactic(auto)]
 
 mod faults;
+mod index;
 mod judge;
 mod laws;
-mod look;
 mod names;
 mod trees;
 
 pub use faults::Fault;
 pub use judge::judge_type;
 pub use laws::{
-    accepted_fits, denoted_fits, every_tree_decided, linked_accepts_alike, more_steps, one_answer,
-    retagging_keeps_judgement, retagging_keeps_names, retagging_keeps_plain_form, sees_given,
+    every_tree_decided, last_is_given, linked_differ_in_tags, retagging_keeps_names,
+    standing_are_linked,
 };
-pub use names::{Names, Place};
+pub use names::{LastPlace, Names};
 pub use trees::{Answer, Field, Tree};

@@ -9,7 +9,7 @@ use std::collections::BTreeMap;
 
 /// Where the last definition of a name stands, and whether others of the name stand before it.
 #[derive(Clone, Copy, Debug, PartialEq, Eq)]
-pub struct Place {
+pub struct LastPlace {
     /// Its number in the list, from 0.
     pub at: usize,
     pub is_repeated: bool,
@@ -19,6 +19,6 @@ pub struct Place {
 #[derive(Drop)]
 pub struct Names<'t> {
     pub(crate) definitions: &'t List<ToplevelDefinition>,
-    pub(crate) index: BTreeMap<String, Place>,
+    pub(crate) index: BTreeMap<String, LastPlace>,
     ghost is_index: { IsIndexOf definitions.now index },
 }

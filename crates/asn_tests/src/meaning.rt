@@ -16,7 +16,7 @@ const STEPS: usize = 64;
 
 // What the type of this name answers; None where there is none.
 fn answer_of(names: &Names, name: &str, tree: &Tree) -> Option<Answer> {
-    Some(judge_type(names, names.type_named(name)?, tree, STEPS))
+    Some(judge_type(names, &names.type_named(name)?.ty, tree, STEPS))
 }
 
 // The same of the text's linked answer.

@@ -55,6 +55,9 @@ fn what_a_name_stands_for(rt: HostRuntime) -> Result<(), Fail> {
     assert_eq!(rt; names.see("Id").map(is_sequence), Some(true));
     assert_eq!(rt; names.see("A").map(is_sequence), Some(false));
     assert!(rt; names.see("X").is_none());
+    assert!(rt; names.see("TYPE-IDENTIFIER").is_none());
+    assert_eq!(rt; names.last_named("Id").map(is_sequence), Some(true));
+    assert!(rt; names.last_named("X").is_none());
     assert!(rt; names.is_duplicate("Id"));
     assert!(rt; !names.is_duplicate("A"));
     assert!(rt; !names.is_duplicate("X"));

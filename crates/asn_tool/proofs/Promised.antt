@@ -5,8 +5,7 @@ use Rattle.std.specs.Global.{Global}
 use Rattle.asn_check.specs.declared.linked.Linked.{Linked}
 use Rattle.asn_check.specs.Linked.{IsLinkedOf}
 use Rattle.asn_modules.specs.Whole.{IsReading}
-use Rattle.asn_names.specs.Definitions.{Module}
-use Rattle.asn_names.specs.Meaning.{IsPlain}
+use Rattle.asn_names.specs.Definitions.{Module, definitions_of}
 use Rattle.asn_rules.specs.Expression.{rule}
 use Rattle.asn_rules.specs.First.{first}
 use Rattle.asn_rules.specs.Runs.{Ending, ends, fails, ExactlyOne}
@@ -42,10 +41,9 @@ came due OutOfMemory text sink sink' d = inl d
 
 -- the linked answer of a text means what is read
 means : (text : List ℕ) (reading : List Module) (linked : Linked) → IsReading text reading → IsLinkedOf reading linked → MeansWhatIsRead reading linked.definitions
-means text reading linked reads links name d seen ty is clean free =
-    let m = links.meaning name d seen ty is clean free in
-    let plain : IsPlain ty = reading_plain text reads.1 reading reads.3 name d ty seen is in
-    (m.0, m.1, m.3 ∙ plain, m.2)
+means text reading linked reads links name d is clean free =
+    let m = links.meaning name d is clean free in
+    (m.0, m.1, m.3.0 (reading_plain (definitions_of reading) text reads.1 reading reads.3 name d is), m.2)
 
 -- ---- a text is judged in one way
 

@@ -2,18 +2,19 @@
 use Rattle.std.specs.Prelude.{◌≡◌, ◌⊎◌, ℕ, List, Some, None, map}
 use Rattle.asn_check.specs.declared.linked.Linked.{Linked}
 use Rattle.asn_check.specs.Listing.{listing_of}
-use Rattle.asn_check.specs.Meaning.{parameters_of}
-use Rattle.asn_check.specs.Warnings.{said_by, warnings_of}
+use Rattle.asn_check.specs.KeptMeaning.{AcceptsAlike}
+use Rattle.asn_check.specs.Warnings.{AreWarnings, said_by}
+use Rattle.asn_meaning.specs.Definitions.{type_named}
+use Rattle.asn_meaning.specs.Plain.{IsPlain}
 use Rattle.asn_modules.specs.Whole.{IsMatchingError, IsReading}
-use Rattle.asn_names.specs.Definitions.{Definitions, Module, definitions_of, see, type_named, type_of, name_of, IsStanding}
+use Rattle.asn_names.specs.Definitions.{Definitions, Module, definitions_of}
 use Rattle.asn_names.specs.Faults.{IsClean}
-use Rattle.asn_names.specs.Kept.{given_definitions}
-use Rattle.asn_names.specs.Meaning.{AcceptsAlike, IsPlain}
+use Rattle.asn_names.specs.Linked.{AreLinked}
 use Rattle.asn_streams.specs.Sink.{Takes}
 use Rattle.asn_streams.specs.Stream.{StreamState}
 use Rattle.asn_text.specs.declared.report.LexerError.{LexerError}
-use Rattle.asn_tree.specs.declared.definitions.ToplevelDefinition.{ToplevelDefinition}
-use Rattle.asn_tree.specs.declared.types.ASN1Type.{ASN1Type}
+use Rattle.asn_tree.specs.declared.definitions.ToplevelDefinition.TheVariants.{TypeDef}
+use Rattle.asn_tree.specs.declared.definitions.ToplevelTypeDefinition.{ToplevelTypeDefinition}
 use Rattle.asn_tool.specs.declared.ended.Ended.{Ended}
 use Rattle.asn_tool.specs.declared.status.Status.{Status}
 use Rattle.asn_tool.specs.declared.status.Status.TheVariants.{Clean, Warned, Matching, TooDeep, NotUtf8, TooLong}
@@ -27,11 +28,10 @@ IsListing status = (status ≡ Clean) ⊎ (status ≡ Warned)
 -- exactly the value trees that it accepts in the reading.
 abbrev pub MeansWhatIsRead : List Module → Definitions → Type 0
 MeansWhatIsRead reading linked =
-    (name : List ℕ) (d : ToplevelDefinition) → see (definitions_of reading) name ≡ Some d →
-    (ty : ASN1Type) → type_of d ≡ Some ty →
-    IsClean (definitions_of reading) d → parameters_of d ≡ None →
-    (linked_ty : ASN1Type) × (type_named linked name ≡ Some linked_ty) × IsPlain linked_ty
-    × AcceptsAlike (definitions_of reading) linked ty linked_ty
+    (name : List ℕ) (d : ToplevelTypeDefinition) → type_named (definitions_of reading) name ≡ Some d →
+    IsClean (definitions_of reading) (TypeDef d) → d.parameterization ≡ None →
+    (e : ToplevelTypeDefinition) × (type_named linked name ≡ Some e) × IsPlain linked e.ty
+    × AcceptsAlike (definitions_of reading) d.ty linked e.ty
 
 -- The listing of one linked answer of the text is written, and the answer means what the text says.
 pub record Prints (depth : ℕ) (text : List ℕ) (sink sink' : StreamState) (ended : Ended) : Type 0 where
@@ -46,9 +46,10 @@ pub record Prints (depth : ℕ) (text : List ℕ) (sink sink' : StreamState) (en
   -- the headers of the modules, in order
   pub headers : linked.modules ≡ map (λ m. m.0) reading
   -- one definition for each name, the last of the name, in byte order of names, as read but for numbers and environment
-  pub definitions : IsStanding (given_definitions reading) linked.definitions
-  -- each definition is warned exactly for its faults, and each name that is defined more than once for that
-  pub warned : map said_by linked.warnings ≡ warnings_of (definitions_of reading) (map name_of linked.definitions)
+  pub definitions : AreLinked reading linked.definitions
+  -- each definition is warned exactly for its faults, and each name that is defined more than once for that, in byte
+  -- order of names
+  pub warned : AreWarnings (definitions_of reading) (map said_by linked.warnings)
   pub means : MeansWhatIsRead reading linked.definitions
   pub status : ended.status ≡ status_of linked
 

@@ -1,5 +1,5 @@
 use Rattle.std.proofs.Common.{◌≡◌, ◌++◌, drop}
-use Rattle.asn_names.specs.Kept.{given_from}
+use Rattle.asn_names.specs.Given.{given_from}
 use Rattle.asn_check.proofs.given.give_module.Given as goal
 
 abbrev pub invariant-loop-item : goal.invariant-loop-item

@@ -1,5 +1,5 @@
 use Rattle.std.proofs.Common.{◌≡◌, ◌++◌, drop}
-use Rattle.asn_names.specs.Kept.{given_since}
+use Rattle.asn_names.specs.Given.{given_since}
 use Rattle.asn_check.proofs.given.give_reading.Given as goal
 
 abbrev pub invariant-loop-home : goal.invariant-loop-home

@@ -3,7 +3,7 @@ use Rattle.std.specs.Prelude.{is_none, ◌||◌}
 use Rattle.std.specs.List.{list_any}
 use Rattle.asn_tree.specs.declared.types.SequenceOrSetMember.{out-SequenceOrSetMember}
 use Rattle.asn_names.specs.Faults.{is_missing}
-use Rattle.asn_names.specs.Definitions.{type_named}
+use Rattle.asn_meaning.specs.Definitions.{type_named}
 use Rattle.asn_names.specs.Occurrences.{members_names, names_in}
 use Rattle.asn_names.proofs.Occurrences.{other_any, sequence_any, reference_any, member_any, none_copied}
 use Rattle.asn_names.proofs.names.Names.+missing.Goals as goal

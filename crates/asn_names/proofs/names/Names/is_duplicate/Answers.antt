@@ -1,6 +1,6 @@
 use Rattle.std.proofs.Common.{sym, ap, ◌∙◌, subst}
 use Rattle.std.specs.Prelude.{nat_lt}
-use Rattle.asn_names.proofs.Places.{Tells, tells}
+use Rattle.asn_names.proofs.LastPlaces.{Tells, tells}
 use Rattle.asn_names.proofs.names.Names.is_duplicate.Goals as goal
 
 pub returns-in-Some : goal.returns-in-Some
