@@ -1,0 +1,5 @@
+pub mod Asked
+pub mod BareNumbers
+pub mod Equations
+pub mod Octets
+pub mod Views

@@ -1,0 +1,13 @@
+use Rattle.std.proofs.Common.{◌≡◌, ◌≤◌, length}
+use Rattle.asn_rules.specs.Guards.{bare}
+use Rattle.asn_literals.proofs.bare.behind_gap.Given as goal
+
+abbrev pub invariant-loop-rest : goal.invariant-loop-rest
+invariant-loop-rest l =
+    record {
+      same : bare l.rest ≡ bare l.bytes;
+      shorter : length l.rest ≤ length l.bytes;
+    }
+
+abbrev pub decreases-loop-rest : goal.decreases-loop-rest
+decreases-loop-rest l = length l.rest

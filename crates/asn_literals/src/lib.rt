@@ -1,0 +1,27 @@
+//! The nodes of a text, and what the smallest of them spell: names, numbers, truth values, bits, texts, reals and the
+//! arcs of object identifiers.
+//!
+//! It stands on the grammar, whose rules are those of the whole of ASN.1 here, and knows no tree of values or types. The
+//! readers of values and types above begin with [`read_node`] and ask for what a node spells by its rule.
+#![tactic(auto)]
+
+mod bare;
+mod bits;
+mod entry;
+mod identifiers;
+mod names;
+mod numbers;
+mod paths;
+mod reals;
+mod strings;
+mod truths;
+
+pub use bits::{read_binary, read_hexadecimal, read_named_bits};
+pub use entry::read_node;
+pub use identifiers::read_object_identifier;
+pub use names::{children, read_name};
+pub use numbers::{read_i32, read_i128, read_integer, read_u64, read_u128};
+pub use paths::read_parent;
+pub use reals::{read_decimal, read_real_parts};
+pub use strings::{read_quadruple, read_quoted, read_time};
+pub use truths::read_truth;
