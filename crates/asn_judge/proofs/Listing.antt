@@ -1,0 +1,51 @@
+-- Argument lists one by one, and that an instance asks no more of them than how many there are.
+use Rattle.std.proofs.Common.{◌≡◌, ℕ, ◌+◌, ◌<◌, List, [], ◌∷◌, drop, length, get_or, None, refl, sym, ap, ◌∙◌}
+use Rattle.std.proofs.lemmas.List.{drop_more}
+use Rattle.asn_tree.specs.declared.constraints.Constraint.{Constraint, Constraint-F, out-Constraint}
+use Rattle.asn_tree.specs.declared.constraints.Parameter.{Parameter}
+use Rattle.asn_judge.specs.Lists.{Lists, NoList, OneList, SeveralLists, counted, joined, with_layer, with_list}
+use Rattle.asn_meaning.specs.Layers.{ConstraintLayer}
+use Rattle.asn_meaning.specs.Names.{dummy_target, list_at, lists_in}
+use Rattle.asn_tree.specs.declared.definitions.ParameterGovernor.{ParameterGovernor}
+use Rattle.asn_tree.specs.declared.definitions.ParameterGovernor.TheVariants as governor
+use Rattle.asn_meaning.specs.Scopes.{Bound}
+
+joined_layer : (lists : Lists) (c : ConstraintLayer) (others : List (List Parameter)) → joined lists (list_at c others) ≡ joined (with_layer lists c) others
+joined_layer lists (Constraint-F.SubtypeConstraint set) others = refl
+joined_layer lists (Constraint-F.TableConstraint table) others = refl
+joined_layer lists (Constraint-F.Parameter arguments) others = refl
+joined_layer lists (Constraint-F.ContentConstraint content) others = refl
+
+pub joined_next : (lists : Lists) (cs : List Constraint) (i : ℕ) (c : Constraint) → i < length cs → c ≡ get_or cs i c →
+    joined lists (lists_in (drop i cs)) ≡ joined (with_layer lists (out-Constraint c)) (lists_in (drop (i + 1) cs))
+joined_next lists cs i c lt e =
+    ap (λ xs. joined lists (lists_in xs)) (drop_more cs i c lt)
+    ∙ ap (λ x. joined lists (lists_in (x ∷ drop (i + 1) cs))) (sym e)
+    ∙ joined_layer lists (out-Constraint c) (lists_in (drop (i + 1) cs))
+
+several : (lists : List (List Parameter)) → joined SeveralLists lists ≡ SeveralLists
+several [] = refl
+several (arguments ∷ others) = several others
+
+-- ---- dummies
+
+no_list : (lists : List (List Parameter)) → counted lists ≡ NoList → lists ≡ []
+no_list [] e = refl
+no_list (arguments ∷ []) e = absurd cc
+no_list (arguments ∷ more ∷ others) e = let f = several others in absurd cc
+
+with_lists : (b : Bound) (g : ParameterGovernor) (arguments : List Parameter) (others : List (List Parameter)) → dummy_target b g (arguments ∷ others) ≡ None
+with_lists b governor.None arguments others = refl
+with_lists b (governor.TypeOrClass ty) arguments others = refl
+with_lists b (governor.Class name) arguments others = refl
+
+pub dummy_alone : (b : Bound) (g : ParameterGovernor) (lists : List (List Parameter)) → counted lists ≡ NoList → dummy_target b g lists ≡ dummy_target b g []
+dummy_alone b g lists e = ap (dummy_target b g) (no_list lists e)
+
+pub dummy_with_list : (b : Bound) (g : ParameterGovernor) (lists : List (List Parameter)) (arguments : List Parameter) → counted lists ≡ OneList arguments → dummy_target b g lists ≡ None
+dummy_with_list b g [] arguments e = absurd cc
+dummy_with_list b g (first ∷ others) arguments e = with_lists b g first others
+
+pub dummy_with_lists : (b : Bound) (g : ParameterGovernor) (lists : List (List Parameter)) → counted lists ≡ SeveralLists → dummy_target b g lists ≡ None
+dummy_with_lists b g [] e = absurd cc
+dummy_with_lists b g (first ∷ others) e = with_lists b g first others

@@ -1,0 +1,9 @@
+pub mod Answers
+pub mod Scopes
+pub mod Kinds
+pub mod Definitions
+pub mod Written
+pub mod Places
+pub mod Lists
+pub mod Trees
+pub mod Classes

@@ -1,0 +1,60 @@
+//! Value trees: what values denote, whatever notation they are written in.
+
+ghost use Rattle.asn_judge.specs.Trees.{shown_fields, shown_tree, shown_trees};
+ghost use Rattle.asn_meaning.specs.ValueTrees.{field_named};
+ghost use Rattle.std.specs.Prelude.{◌≡◌, MatchOption, None, Some};
+
+use asn_memory::{Box, List, Text};
+use asn_tree::{ObjectIdentifierValue, RealValue};
+
+/// A value tree.
+#[cycle(tree)]
+#[derive(Drop)]
+pub enum Tree {
+    /// The value of NULL (X.680 24).
+    Null,
+    /// A truth value (X.680 18).
+    Truth(bool),
+    /// A whole number (X.680 19).
+    Whole(i128),
+    /// The number of an item of an enumeration (X.680 20).
+    Item(i128),
+    /// A real by its mantissa, base and exponent (X.680 21).
+    Real(RealValue),
+    /// A string of bits, from the first (X.680 22).
+    Bits(List<bool>),
+    /// A string of octets (X.680 23).
+    Octets(List<u8>),
+    /// A text (X.680 41).
+    Text(Text),
+    /// An object identifier by its arcs: an arc stands for its number where it has one, else for its name (X.680 32).
+    ObjectIdentifier(ObjectIdentifierValue),
+    /// The members that are present, of a SEQUENCE or SET: of several fields of one name the first stands (X.680 25, 27).
+    Struct(List<Field>),
+    /// The elements of a SEQUENCE OF or SET OF, in order (X.680 26, 28).
+    Elements(List<Tree>),
+    /// An alternative of a CHOICE by its name (X.680 29).
+    Alternative(Text, Box<Tree>),
+    /// A value of which nothing is known.
+    Opaque,
+}
+
+/// A member that is present.
+#[cycle(tree)]
+#[derive(Drop)]
+pub struct Field {
+    pub name: Text,
+    pub tree: Tree,
+}
+
+/// The tree of the first field of the name.
+pub fn find_field<'t>(fields: &'t [Field], name: &str) -> Option<&'t Tree>
+    ensures { MatchOption result (field_named (shown_fields fields.now) name.now ≡ None) (λ tree. field_named (shown_fields fields.now) name.now ≡ Some (shown_tree tree.now)) }
+{
+    for field in fields {
+        if field.name.as_str() == name {
+            return Some(&field.tree);
+        }
+    }
+    None
+}
