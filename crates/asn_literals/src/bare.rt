@@ -2,9 +2,9 @@
 
 ghost use Rattle.std.specs.Prelude.{◌≡◌, ◌≤◌, ◌<◌, length, drop, IfOk, IfSome, true, Some, [], ◌∷◌};
 ghost use Rattle.std.specs.Option.{MatchOption, is_some};
-ghost use Rattle.asn_rules.specs.Guards.{bare, bare_from, before, behind, in_line, number, within};
+ghost use Rattle.asn_rules.specs.Guards.{bare, before, behind, in_line, number, within};
 ghost use Rattle.asn_rules.specs.Lexical.{is_blank};
-ghost use Rattle.asn_rules.specs.Sizes.{starts_bare};
+ghost use Rattle.asn_rules.specs.Sizes.{outside, outside_from, starts_bare};
 
 use asn_memory::{List, Mem};
 use asn_rules::{ByteClass, is_in_class, whole_number};
@@ -25,9 +25,9 @@ fn behind(bytes: &[u8], count: usize) -> &[u8]
 }
 
 // What follows the line comment in which these bytes begin.
-#[tactic(auto, using(asn_rules::proofs::Bare::line_closes, asn_rules::proofs::Bare::line_breaks, asn_rules::proofs::Bare::line_goes_on, asn_rules::proofs::Bare::bare_none))]
+#[tactic(auto, using(asn_rules::proofs::Bare::line_closes, asn_rules::proofs::Bare::line_breaks, asn_rules::proofs::Bare::line_goes_on, asn_rules::proofs::Bare::outside_none))]
 fn behind_line(bytes: &[u8]) -> &[u8]
-    ensures same { bare result.now ≡ bare_from in_line bytes.now }
+    ensures same { outside result.now ≡ outside_from in_line bytes.now }
     ensures shorter { length result.now ≤ length bytes.now }
 {
     let mut rest = bytes;
@@ -44,9 +44,9 @@ fn behind_line(bytes: &[u8]) -> &[u8]
 }
 
 // What follows the block comment in which these bytes begin, and those within it.
-#[tactic(auto, using(asn_rules::proofs::Bare::block_opens, asn_rules::proofs::Bare::block_closes, asn_rules::proofs::Bare::block_goes_on, asn_rules::proofs::Bare::bare_none))]
+#[tactic(auto, using(asn_rules::proofs::Bare::block_opens, asn_rules::proofs::Bare::block_closes, asn_rules::proofs::Bare::block_goes_on, asn_rules::proofs::Bare::outside_none))]
 fn behind_block(bytes: &[u8]) -> &[u8]
-    ensures same { bare result.now ≡ bare_from (within 1) bytes.now }
+    ensures same { outside result.now ≡ outside_from (within 1) bytes.now }
     ensures shorter { length result.now ≤ length bytes.now }
 {
     let mut rest = bytes;
@@ -69,8 +69,9 @@ fn behind_block(bytes: &[u8]) -> &[u8]
 }
 
 // The bytes from the first outside blanks and comments on.
-#[tactic(auto, using(asn_rules::proofs::Bare::line_opens, asn_rules::proofs::Bare::comment_opens, asn_rules::proofs::Bare::blank_goes_on, asn_rules::proofs::Bare::outside_here))]
+#[tactic(auto, using(asn_rules::proofs::Bare::line_opens, asn_rules::proofs::Bare::comment_opens, asn_rules::proofs::Bare::blank_goes_on, asn_rules::proofs::Bare::outside_here, asn_rules::proofs::Bare::outside_none, asn_rules::proofs::Bare::outside_stands, asn_rules::proofs::Bare::bare_gap))]
 fn behind_gap(bytes: &[u8]) -> &[u8]
+    ensures value { result.now ≡ outside bytes.now }
     ensures same { bare result.now ≡ bare bytes.now }
     ensures begins { starts_bare result.now ≡ true }
     ensures shorter { length result.now ≤ length bytes.now }

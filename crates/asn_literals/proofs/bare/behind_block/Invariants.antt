@@ -1,11 +1,12 @@
 use Rattle.std.proofs.Common.{◌≡◌, ◌≤◌, ◌+◌, length, suc}
-use Rattle.asn_rules.specs.Guards.{bare_from, within}
+use Rattle.asn_rules.specs.Guards.{within}
+use Rattle.asn_rules.specs.Sizes.{outside_from}
 use Rattle.asn_literals.proofs.bare.behind_block.Given as goal
 
 abbrev pub invariant-loop-rest : goal.invariant-loop-rest
 invariant-loop-rest l =
     record {
-      same : bare_from (within (suc l.inner)) l.rest ≡ bare_from (within 1) l.bytes;
+      same : outside_from (within (suc l.inner)) l.rest ≡ outside_from (within 1) l.bytes;
       shorter : l.inner + length l.rest ≤ length l.bytes;
     }
 

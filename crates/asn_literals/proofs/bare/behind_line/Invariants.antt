@@ -1,11 +1,12 @@
 use Rattle.std.proofs.Common.{◌≡◌, ◌≤◌, length}
-use Rattle.asn_rules.specs.Guards.{bare_from, in_line}
+use Rattle.asn_rules.specs.Guards.{in_line}
+use Rattle.asn_rules.specs.Sizes.{outside_from}
 use Rattle.asn_literals.proofs.bare.behind_line.Given as goal
 
 abbrev pub invariant-loop-rest : goal.invariant-loop-rest
 invariant-loop-rest l =
     record {
-      same : bare_from in_line l.rest ≡ bare_from in_line l.bytes;
+      same : outside_from in_line l.rest ≡ outside_from in_line l.bytes;
       shorter : length l.rest ≤ length l.bytes;
     }
 
