@@ -5,7 +5,7 @@ use Rattle.asn_syntax.specs.declared.objects.SyntaxExpression.{SyntaxExpression,
 use Rattle.asn_syntax.specs.declared.objects.SyntaxExpression.TheVariants.{Required, Optional, outs-Required, outs-Optional}
 use Rattle.asn_syntax.specs.declared.objects.SyntaxToken.{SyntaxToken}
 use Rattle.asn_calls.specs.Laws.{FlatSyntax}
-use Rattle.asn_calls.specs.Syntax.{flattened, marked_optional, tokens_at, tokens_in, tokens_of, with_mark, with_mark_at}
+use Rattle.asn_notation.specs.Syntax.{flattened, marked_optional, tokens_at, tokens_in, tokens_of, with_mark, with_mark_at}
 
 joined : (parts : List SyntaxExpression) → flat_map (λ tokens. tokens) (map tokens_in parts) ≡ tokens_of parts
 joined [] = refl

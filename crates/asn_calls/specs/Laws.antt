@@ -11,7 +11,7 @@ use Rattle.asn_tree.specs.declared.types.ASN1Type.{ASN1Type}
 use Rattle.asn_calls.specs.Admitting.{AllAdmit}
 use Rattle.asn_calls.specs.Integers.{place, earlier, holds, type_of_all}
 use Rattle.asn_calls.specs.Members.{NameTypesGive, lent_pair}
-use Rattle.asn_calls.specs.Syntax.{flattened, tokens_of}
+use Rattle.asn_notation.specs.Syntax.{flattened, tokens_of}
 
 -- The most restrictive of two integer types is one of them, and none of them comes before it. The order is that of what the
 -- types hold, as far as that goes: a type whose numbers are all another's does not come behind it.

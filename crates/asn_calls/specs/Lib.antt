@@ -7,8 +7,4 @@ pub mod Integers
 pub mod Laws
 pub mod LentTypes
 pub mod Members
-pub mod Paths
-pub mod Strings
-pub mod Syntax
-pub mod Types
 pub mod Values

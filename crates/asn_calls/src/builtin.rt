@@ -1,6 +1,6 @@
 //! Types that a word names.
 
-ghost use Rattle.asn_calls.specs.Types.{builtin, elsewhere};
+ghost use Rattle.asn_notation.specs.Types.{builtin, elsewhere};
 ghost use Rattle.std.specs.Option.{option_copied};
 ghost use Rattle.std.specs.Prelude.{◌≡◌, IfErr, IfOk, None, Some};
 

@@ -1,6 +1,6 @@
 //! Calls on the character string types.
 
-ghost use Rattle.asn_calls.specs.Strings.{alone, characters, numbered, span, string_named, string_word};
+ghost use Rattle.asn_notation.specs.Strings.{alone, characters, numbered, span, string_named, string_word};
 ghost use Rattle.std.specs.Option.{option_to_list};
 ghost use Rattle.std.specs.Prelude.{◌≡◌, ◌++◌, IfOk, OnErr, OnOk};
 

@@ -1,6 +1,6 @@
 //! Calls on types.
 
-ghost use Rattle.asn_calls.specs.Types.{builtin_named, constraints_of, elsewhere, is_builtin, is_const, type_name, with_constraints};
+ghost use Rattle.asn_notation.specs.Types.{builtin_named, constraints_of, elsewhere, is_builtin, is_const, type_name, with_constraints};
 ghost use Rattle.asn_calls.specs.LentTypes.{constraints_row};
 ghost use Rattle.asn_same.specs.Making.{listed};
 ghost use Rattle.asn_tree.specs.contracts.types.ASN1Type.{the_row};

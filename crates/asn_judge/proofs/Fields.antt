@@ -9,7 +9,7 @@ use Rattle.asn_syntax.specs.declared.objects.ObjectFieldIdentifier.{ObjectFieldI
 use Rattle.asn_tree.specs.declared.objects.InformationObjectClass.{InformationObjectClass}
 use Rattle.asn_tree.specs.declared.objects.InformationObjectClassField.{InformationObjectClassField}
 use Rattle.asn_tree.specs.declared.types.ASN1Type.{ASN1Type}
-use Rattle.asn_calls.specs.Paths.{field_name}
+use Rattle.asn_notation.specs.Paths.{field_name}
 use Rattle.asn_judge.specs.Classes.{field_ty, kind_names_class, path_type}
 use Rattle.asn_meaning.specs.Answers.{once}
 use Rattle.asn_meaning.specs.Definitions.{Definitions, class_named, plain_identifier, type_identifier}

@@ -5,7 +5,7 @@ use Rattle.asn_syntax.specs.declared.objects.ObjectFieldIdentifier.{ObjectFieldI
 use Rattle.asn_tree.specs.declared.objects.InformationObjectClass.{InformationObjectClass}
 use Rattle.asn_tree.specs.declared.objects.InformationObjectClassField.{InformationObjectClassField}
 use Rattle.asn_tree.specs.declared.types.ASN1Type.{ASN1Type}
-use Rattle.asn_calls.specs.Paths.{field_name}
+use Rattle.asn_notation.specs.Paths.{field_name}
 use Rattle.asn_judge.specs.declared.classes.FieldType.{FieldType as LentFieldType}
 use Rattle.asn_judge.specs.declared.classes.FieldType.TheVariants as lent
 use Rattle.asn_judge.specs.Kinds.{shown_type}

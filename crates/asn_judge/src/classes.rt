@@ -1,6 +1,6 @@
 //! The fields of classes, and the types that they have (X.681 9, 14).
 
-ghost use Rattle.asn_calls.specs.Paths.{field_name};
+ghost use Rattle.asn_notation.specs.Paths.{field_name};
 ghost use Rattle.asn_judge.specs.Classes.{field_ty, kind_names_class, path_type, shown_field_type};
 ghost use Rattle.asn_judge.specs.Definitions.{shown_class};
 ghost use Rattle.asn_judge.specs.Kinds.{shown_kind, shown_reference, shown_type};

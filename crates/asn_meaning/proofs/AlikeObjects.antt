@@ -33,8 +33,8 @@ use Rattle.asn_syntax.specs.declared.objects.SyntaxToken.{SyntaxToken}
 use Rattle.asn_syntax.specs.declared.objects.SyntaxToken.TheVariants.{Literal, Comma, Field}
 use Rattle.asn_tree.specs.declared.types.ASN1Type.{ASN1Type}
 use Rattle.asn_tree.specs.declared.types.ASN1Type.TheVariants as type_of_kind
-use Rattle.asn_calls.specs.Paths.{field_name}
-use Rattle.asn_calls.specs.Syntax.{given_name, given_name_at, gives_type_at, gives_value_at, is_comma_at, is_word_at, later_tokens, matches, up_to_required}
+use Rattle.asn_notation.specs.Paths.{field_name}
+use Rattle.asn_notation.specs.Syntax.{given_name, given_name_at, gives_type_at, gives_value_at, is_comma_at, is_word_at, later_tokens, matches, up_to_required}
 use Rattle.asn_meaning.specs.Answers.{once}
 use Rattle.asn_meaning.specs.Definitions.{Definitions, see, type_in, type_named, value_in, value_named, unless_template, information_in, information_named, class_in, is_class, class_named, object_in, object_named}
 use Rattle.asn_meaning.specs.Layers.{FieldLayer, FieldsLayer, ItemLayer, ReferenceLayer}

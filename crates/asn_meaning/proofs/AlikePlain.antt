@@ -12,7 +12,7 @@ use Rattle.asn_tree.specs.declared.types.ASN1Type.{ASN1Type}
 use Rattle.asn_tree.specs.declared.types.ChoiceOption.{ChoiceOption, out-ChoiceOption}
 use Rattle.asn_tree.specs.declared.types.SequenceOrSetMember.{SequenceOrSetMember, out-SequenceOrSetMember}
 use Rattle.asn_tree.specs.declared.values.ASN1Value.{ASN1Value}
-use Rattle.asn_calls.specs.Types.{constraints_of}
+use Rattle.asn_notation.specs.Types.{constraints_of}
 use Rattle.asn_meaning.specs.Placed.{listed}
 use Rattle.asn_meaning.specs.Accepts.{place}
 use Rattle.asn_meaning.specs.Answers.{once}

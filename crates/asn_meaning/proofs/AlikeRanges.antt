@@ -12,7 +12,7 @@ use Rattle.asn_tree.specs.declared.types.ASN1Type.{ASN1Type}
 use Rattle.asn_tree.specs.declared.types.ASN1Type.TheVariants as type_of_kind
 use Rattle.asn_kinds.specs.declared.types.DistinguishedValue.{DistinguishedValue}
 use Rattle.asn_tree.specs.declared.values.ASN1Value.{ASN1Value}
-use Rattle.asn_calls.specs.Types.{constraints_of}
+use Rattle.asn_notation.specs.Types.{constraints_of}
 use Rattle.asn_meaning.specs.Placed.{listed}
 use Rattle.asn_meaning.specs.Answers.{Answer, Denotation, once, unless_all}
 use Rattle.asn_meaning.specs.Definitions.{Definitions}

@@ -12,7 +12,7 @@ use Rattle.asn_tree.specs.declared.constraints.ElementOrSetOperation.{out-Elemen
 use Rattle.asn_tree.specs.declared.constraints.SubtypeElement.{out-SubtypeElement}
 use Rattle.asn_tree.specs.declared.types.ASN1Type.{ASN1Type}
 use Rattle.asn_tree.specs.declared.values.ASN1Value.{ASN1Value}
-use Rattle.asn_calls.specs.Types.{constraints_of}
+use Rattle.asn_notation.specs.Types.{constraints_of}
 use Rattle.asn_meaning.specs.Placed.{listed}
 use Rattle.asn_meaning.specs.Accepts.{place, judge, Accepts}
 use Rattle.asn_meaning.specs.Answers.{Answer, Yes, Unknown, both, once}

@@ -20,7 +20,7 @@ use Rattle.asn_tree.specs.declared.values.ASN1Value.{ASN1Value, ASN1Value-F, out
 use Rattle.asn_tree.specs.declared.values.LinkedField.{LinkedField, out-LinkedField, out-roll-LinkedField}
 use Rattle.asn_kinds.specs.declared.values.StructLikeFieldValueOver.{StructLikeFieldValueOver}
 use Rattle.asn_kinds.specs.declared.values.StructLikeFieldValueOver.TheVariants.{Explicit, Implicit}
-use Rattle.asn_calls.specs.Types.{constraints_at, constraints_of}
+use Rattle.asn_notation.specs.Types.{constraints_at, constraints_of}
 use Rattle.asn_meaning.specs.Placed.{listed}
 use Rattle.asn_meaning.specs.Kinds.{Kind, NullKind, BooleanKind, IntegerKind, RealKind, BitStringKind, OctetStringKind, CharacterStringKind, TimeKind, EnumeratedKind, ObjectIdentifierKind, OpaqueKind, StructKind, ListKind, ChoiceKind, FieldKind, ReferenceKind, SelectionKind, kind_at, kind_of_type}
 use Rattle.asn_meaning.specs.Layers.{ClassFieldLayer, LinkedLayer, MemberLayer, OptionLayer, ReferenceLayer, StructLayer, TypeLayer, ValueLayer}

@@ -18,8 +18,8 @@ use Rattle.asn_syntax.specs.declared.objects.SyntaxToken.{SyntaxToken}
 use Rattle.asn_syntax.specs.declared.objects.SyntaxToken.TheVariants.{Literal, Comma, Field}
 use Rattle.asn_tree.specs.declared.types.ASN1Type.TheVariants as type_of_kind
 use Rattle.asn_tree.specs.declared.values.ASN1Value.TheVariants as value
-use Rattle.asn_calls.specs.Paths.{field_name}
-use Rattle.asn_calls.specs.Syntax.{given_name, marked_optional, matches}
+use Rattle.asn_notation.specs.Paths.{field_name}
+use Rattle.asn_notation.specs.Syntax.{given_name, marked_optional, matches}
 use Rattle.asn_meaning.specs.Answers.{once}
 use Rattle.asn_meaning.specs.Definitions.{Definitions, class_named}
 use Rattle.asn_meaning.specs.Layers.{ItemLayer, FieldsLayer}

@@ -9,8 +9,8 @@ use Rattle.asn_words.specs.declared.plain.CharacterStringType.TheVariants.{Numer
 use Rattle.asn_tree.specs.declared.types.ASN1Type.TheVariants as type_of_kind
 use Rattle.asn_kinds.specs.declared.types.DistinguishedValue.{DistinguishedValue}
 use Rattle.asn_tree.specs.declared.values.ASN1Value.{ASN1Value}
-use Rattle.asn_calls.specs.Strings.{characters}
-use Rattle.asn_calls.specs.Types.{constraints_of}
+use Rattle.asn_notation.specs.Strings.{characters}
+use Rattle.asn_notation.specs.Types.{constraints_of}
 use Rattle.asn_meaning.specs.Placed.{listed}
 use Rattle.asn_meaning.specs.Answers.{once, unless_all, Denotation, Denoted, Nothing, Unsure}
 use Rattle.asn_meaning.specs.Definitions.{Definitions}

@@ -16,7 +16,7 @@ use Rattle.asn_tree.specs.declared.types.SequenceOrSet.{out-SequenceOrSet, out-r
 use Rattle.asn_tree.specs.declared.types.SequenceOrSetMember.{SequenceOrSetMember, out-SequenceOrSetMember, out-roll-SequenceOrSetMember, roll-SequenceOrSetMember}
 use Rattle.asn_tree.specs.declared.values.ASN1Value.{ASN1Value}
 use Rattle.asn_tree.specs.declared.values.ASN1Value.TheVariants.{Integer as Number, outs-Integer as outs-Number}
-use Rattle.asn_calls.specs.Types.{constraints_at}
+use Rattle.asn_notation.specs.Types.{constraints_at}
 use Rattle.asn_meaning.specs.Accepts.{place}
 use Rattle.asn_meaning.specs.Answers.{once}
 use Rattle.asn_meaning.specs.Constraints.{chain_at}

@@ -11,7 +11,7 @@ use Rattle.asn_syntax.specs.declared.objects.SyntaxToken.{SyntaxToken}
 use Rattle.asn_syntax.specs.declared.objects.SyntaxToken.TheVariants.{Literal, Comma, Field}
 use Rattle.asn_tree.specs.Layers.{FieldLayer, ItemLayer}
 use Rattle.asn_settings.specs.Settings.{is_numeral}
-use Rattle.asn_calls.specs.Paths.{field_name}
+use Rattle.asn_notation.specs.Paths.{field_name}
 
 -- a token as it is written
 abbrev pub token_text : SyntaxToken → List ℕ

@@ -11,8 +11,8 @@ use Rattle.asn_kinds.specs.declared.objects.InformationObjectFieldReferenceOver.
 use Rattle.asn_tree.specs.declared.types.SequenceOrSet.{out-SequenceOrSet, roll-SequenceOrSet}
 use Rattle.asn_tree.specs.declared.types.SequenceOrSetOf.{out-SequenceOrSetOf, roll-SequenceOrSetOf}
 use Rattle.asn_tree.specs.Layers.{TypeLayer}
-use Rattle.asn_calls.specs.Paths.{path}
-use Rattle.asn_calls.specs.Strings.{string_word, string_named}
+use Rattle.asn_notation.specs.Paths.{path}
+use Rattle.asn_notation.specs.Strings.{string_word, string_named}
 
 -- The words of a type's own notation. A type reference, a selection and a class's field have none.
 abbrev pub words_at : TypeLayer → Option (List ℕ)

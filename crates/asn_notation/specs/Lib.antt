@@ -1,0 +1,4 @@
+pub mod Paths
+pub mod Strings
+pub mod Syntax
+pub mod Types
