@@ -11,8 +11,6 @@ mod constraint_calls;
 mod definition_calls;
 pub mod parts;
 #[cfg(test)]
-mod settings;
-#[cfg(test)]
 mod syntax_calls;
 #[cfg(test)]
 mod type_calls;

@@ -1,7 +1,7 @@
 //! Texts of settings, as the standard lists them: each is read and written once.
 
 use asn_memory::Mem;
-use asn_tree::{
+use asn_settings::{
     BasicSettings, DateSettings, IntervalTypeSettings, LocalOrUtcSettings, MidnightSettings,
     PropertyAndSettingsPair, PropertySetting, RecurrenceSettings, SettingError,
     StartEndPointSettings, TimeSettings, YearSettings,
