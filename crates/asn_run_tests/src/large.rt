@@ -2,7 +2,7 @@
 
 use crate::texts::words_of;
 use asn_streams::{SureSink, SureSource};
-use asn_tool::{Status, run};
+use asn_tool::{Status, run_to_status};
 use std::alloc::{AllocError, Global};
 use std::string::ToString;
 use std::test::Fail;
@@ -65,7 +65,7 @@ fn a_large_text_is_linked_whole(rt: HostRuntime) -> Result<(), Fail> {
     let words = words_of(alloc, &["link"])?;
     let mut source = SureSource::new(text.as_bytes());
     let mut sink = SureSink::new(alloc, listing.len())?;
-    let came = run(alloc, words.as_slice(), &mut source, &mut sink).status;
+    let came = run_to_status(alloc, words.as_slice(), &mut source, &mut sink);
     assert!(rt; sink.bytes() == Some(listing.as_bytes()));
     assert_eq!(rt; came, Status::Clean);
     Ok(())

@@ -2,7 +2,7 @@
 
 use crate::texts::words_of;
 use asn_streams::{SureSink, SureSource};
-use asn_tool::{LONGEST, Status, run};
+use asn_tool::{LONGEST, Status, run_to_status};
 use std::alloc::{AllocError, Global};
 use std::process::Abort;
 use std::test::Fail;
@@ -25,7 +25,7 @@ fn assert_error(
     let words = words_of(alloc, words)?;
     let mut source = SureSource::new(text);
     let mut sink = SureSink::new(alloc, ROOM)?;
-    let came = run(alloc, words.as_slice(), &mut source, &mut sink).status;
+    let came = run_to_status(alloc, words.as_slice(), &mut source, &mut sink);
     assert_eq!(rt; sink.bytes(), Some(written.as_bytes()));
     assert_eq!(rt; came, status);
     Ok(())
@@ -73,7 +73,7 @@ fn status_of(alloc: Global, words: &[&str], text: &str) -> Result<Status, Fail> 
     let words = words_of(alloc, words)?;
     let mut source = SureSource::new(text.as_bytes());
     let mut sink = SureSink::new(alloc, ROOM)?;
-    Ok(run(alloc, words.as_slice(), &mut source, &mut sink).status)
+    Ok(run_to_status(alloc, words.as_slice(), &mut source, &mut sink))
 }
 
 #[test]

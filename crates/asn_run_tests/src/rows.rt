@@ -2,7 +2,7 @@
 
 use crate::texts::{LISTING, WHOLE, module, words_of};
 use asn_streams::{Source, SureSink, SureSource};
-use asn_tool::{Status, run};
+use asn_tool::{Status, run_to_status};
 use std::alloc::Global;
 use std::process::Abort;
 use std::test::Fail;
@@ -20,7 +20,7 @@ fn assert_row(
     let words = words_of(alloc, &["link"])?;
     let mut source = SureSource::new(text);
     let mut sink = SureSink::new(alloc, ROOM)?;
-    let came = run(alloc, words.as_slice(), &mut source, &mut sink).status;
+    let came = run_to_status(alloc, words.as_slice(), &mut source, &mut sink);
     assert_eq!(rt; sink.bytes(), Some(written.as_bytes()), "at {text:?}");
     assert_eq!(rt; came, status, "at {text:?}");
     Ok(())
@@ -31,7 +31,7 @@ fn assert_usage(rt: &impl Abort, alloc: Global, words: &[&str]) -> Result<(), Fa
     let words = words_of(alloc, words)?;
     let mut source = SureSource::new(WHOLE.as_bytes());
     let mut sink = SureSink::new(alloc, ROOM)?;
-    let came = run(alloc, words.as_slice(), &mut source, &mut sink).status;
+    let came = run_to_status(alloc, words.as_slice(), &mut source, &mut sink);
     assert_eq!(rt;
         sink.bytes(),
         Some(b"error usage\n".as_slice()),

@@ -3,7 +3,7 @@
 //! The room above all others, which nothing stands on. It holds what no clause says: the trees that a text is read and
 //! linked as, and each call once with ample memory. One module for each topic; `readings` has what they share; the
 //! texts are those of `asn_run_tests`; `asn_copy_tests` has the tests of copies and constructors, `asn_call_tests` those of
-//! the calls on trees.
+//! the calls on trees, `asn_grammar_tests` and `asn_plain_tests` those of the rooms below them.
 #![tactic(auto)]
 
 #[cfg(test)]
@@ -11,13 +11,9 @@ mod judging;
 #[cfg(test)]
 mod meaning;
 #[cfg(test)]
-mod memory;
-#[cfg(test)]
 mod names;
 #[cfg(test)]
 mod places;
 pub mod readings;
-#[cfg(test)]
-mod rules;
 #[cfg(test)]
 mod trees;

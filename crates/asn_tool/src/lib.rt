@@ -14,5 +14,5 @@ mod words;
 pub use ended::Ended;
 pub use judging::LONGEST;
 pub use lines::{depth_line, matching_line};
-pub use running::{end_without_words, run};
+pub use running::{end_without_words, run, run_to_status};
 pub use status::{Status, error_line};

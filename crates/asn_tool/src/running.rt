@@ -8,6 +8,7 @@ ghost use Rattle.asn_tool.specs.inner.Output.{bytes_of};
 ghost use Rattle.asn_tool.specs.Run.{AreKnown, Course, Ends, EndsWithoutWords, HasFailed, IsNoUtf8, IsTaken, IsTooDeep, IsTooLong, OfTaken, or_nothing};
 ghost use Rattle.asn_tool.specs.Status.{line};
 ghost use Rattle.asn_tool.specs.Words.{depth_of};
+ghost use Rattle.asn_tool.specs.declared.ended.Ended.{Ended as OneEnded};
 ghost use Rattle.std.specs.Prelude.{◌≡◌, ◌<◌, ◌≤◌, ◌⊎◌, ℕ, List, None, Some, IfSome, OnOk, OnErr};
 
 use crate::ended::Ended;
@@ -140,6 +141,32 @@ pub fn run<S: Source, K: Sink>(
 {
     one_outcome();
     run_through(alloc, words, source, sink)
+}
+
+/// The status of an end. Its trees are let go.
+fn status_of(ended: Ended) -> Status
+    ensures { result ≡ ended.status }
+{
+    ended.status
+}
+
+/// Runs as [`run`] does, and gives the status that the run ends with; what it read and linked is let go.
+///
+/// For programs, which end with a status and hold no trees: [`run`] says when each status comes and what is written.
+pub fn run_to_status<S: Source, K: Sink>(
+    alloc: Global,
+    words: &[String],
+    source: &mut S,
+    sink: &mut K,
+) -> Status
+    ensures ends { (ended : OneEnded)
+        × Ends words.now (S.state source.old) (S.state source.new) (K.state sink.old) (K.state sink.new) ended
+        × (result ≡ ended.status) }
+    ensures unread { depth_of words.now ≡ None → source.new ≡ source.old }
+    ensures source_later { (S.state source.old).faults ≤ (S.state source.new).faults }
+    ensures sink_later { (K.state sink.old).faults ≤ (K.state sink.new).faults }
+{
+    status_of(run(alloc, words, source, sink))
 }
 
 /// What a run writes and answers that finds no memory for its words: the line of want of memory, and that status, or

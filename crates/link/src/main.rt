@@ -1,7 +1,7 @@
 //! The program `link`: it reads ASN.1 modules on standard input, links them, and writes the listing to standard output.
 //!
 //! It only hands the outside on: its words without its own name, standard input and standard output. What happens
-//! between them is `asn_tool`'s `run`.
+//! between them is `asn_tool`'s `run_to_status`.
 #![tactic(auto)]
 
 ghost use Rattle.asn_tool.specs.Run.{Ends, EndsWithoutWords};
@@ -13,7 +13,7 @@ ghost use Rattle.std.specs.Process.{exit_status};
 
 use asn_memory::{Mem, OutOfMemory};
 use asn_streams::{Sink, Source, StdSink, StdSource};
-use asn_tool::{Ended, Status, end_without_words, run};
+use asn_tool::{Status, end_without_words, run_to_status};
 use std::alloc::Global;
 use std::env::{self, Env};
 use std::io;
@@ -57,13 +57,6 @@ fn exit_of(status: Status) -> ExitCode
     ExitCode::from(status.number())
 }
 
-/// The status of a run. Its trees are dropped.
-fn status_of(ended: Ended) -> Status
-    ensures { result ≡ ended.status }
-{
-    ended.status
-}
-
 /// Runs under the words behind the program's own name.
 fn status_under<S: Source, K: Sink>(
     alloc: Global,
@@ -75,7 +68,7 @@ fn status_under<S: Source, K: Sink>(
         × Ends (drop 1 words.now) (S.state source.old) (S.state source.new) (K.state sink.old) (K.state sink.new) ended
         × (result ≡ ended.status) }
 {
-    status_of(run(alloc, behind_own_name(words), source, sink))
+    run_to_status(alloc, behind_own_name(words), source, sink)
 }
 
 /// Runs under the words, and ends with the number of the status that the run comes to. Where there was no memory for the

@@ -1,7 +1,8 @@
-//! Texts, lists and boxes, and the small calls on trees.
+//! Texts, lists and boxes, warnings, and the sum of environments.
 
+use asn_faults::{LinkerError, LinkerErrorType};
+use asn_headers::TaggingEnvironment;
 use asn_memory::{Box, List, Text};
-use asn_tree::{LinkerError, LinkerErrorType, TaggingEnvironment};
 use std::test::Fail;
 
 #[test]
