@@ -13,7 +13,7 @@ use asn_tree::{
 use std::alloc::Global;
 
 /// The built-in type of this word with the constraints, or these back where the word names none.
-#[tactic(auto, unfolding(crate::specs::Types::builtin))]
+#[tactic(auto, unfolding(asn_notation::specs::Types::builtin))]
 pub(crate) fn builtin(
     word: &str,
     constraints: List<Constraint>,

@@ -108,7 +108,7 @@ pub(crate) fn string_word(ty: CharacterStringType) -> &'static str
 }
 
 /// The type of this word.
-#[tactic(auto, unfolding(crate::specs::Strings::string_named))]
+#[tactic(auto, unfolding(asn_notation::specs::Strings::string_named))]
 pub(crate) fn string_named(word: &str) -> Option<CharacterStringType>
     ensures { result ≡ string_named word.now }
 {
