@@ -9,7 +9,8 @@ mod calls;
 mod constraint_calls;
 #[cfg(test)]
 mod definition_calls;
-pub mod parts;
+#[cfg(test)]
+mod parts;
 #[cfg(test)]
 mod syntax_calls;
 #[cfg(test)]

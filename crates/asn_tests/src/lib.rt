@@ -11,9 +11,14 @@ mod judging;
 #[cfg(test)]
 mod meaning;
 #[cfg(test)]
+mod modules;
+#[cfg(test)]
 mod names;
 #[cfg(test)]
+mod parts;
+#[cfg(test)]
 mod places;
-pub mod readings;
+#[cfg(test)]
+mod readings;
 #[cfg(test)]
 mod trees;

@@ -1,6 +1,6 @@
 //! The trees that a run hands out.
 
-use asn_copy_tests::parts::range_in;
+use crate::parts::range_in;
 use asn_run_tests::texts::{WHOLE, words_of};
 use asn_streams::{SureSink, SureSource};
 use asn_tool::{Ended, run};

@@ -1,9 +1,5 @@
 //! Looking into trees: the part that a test asks for, None where the tree is of another form.
 
-ghost use Rattle.asn_tree.specs.declared.constraints.SubtypeElement.TheVariants as Element;
-ghost use Rattle.asn_tree.specs.declared.values.ASN1Value.TheVariants as Value;
-ghost use Rattle.std.specs.Prelude.{◌≡◌, ℤ, Some, false};
-
 use asn_tree::{
     ASN1Type, ASN1Value, Constraint, ElementOrSetOperation, ElementSet, Integer, Reading,
     SequenceOrSet, SubtypeElement, ToplevelDefinition, ToplevelTypeDefinition,
@@ -36,7 +32,6 @@ pub fn integer_in(ty: &ASN1Type) -> Option<&Integer> {
 
 /// The ends of a range of numbers, both closed, without an extension marker.
 pub fn ends_of(element: &SubtypeElement) -> Option<(i128, i128)>
-    ensures { (low high : ℤ) → result ≡ Some (low, high) → element.now ≡ Element.ValueRange (Some (Value.Integer low)) (Some (Value.Integer high)) false false false }
 {
     match element {
         SubtypeElement::ValueRange {
