@@ -15,11 +15,13 @@ use Rattle.asn_meaning.specs.Answers.{once}
 use Rattle.asn_meaning.specs.Definitions.{built_in, type_in, type_named}
 use Rattle.asn_meaning.specs.Kinds.{Kind, ReferenceKind, kind_of_type}
 use Rattle.asn_meaning.specs.Layers.{ConstraintLayer, ReferenceLayer}
-use Rattle.asn_meaning.specs.Names.{list_at, lists_in}
+use Rattle.asn_meaning.specs.Names.{lead, list_at, lists_in}
+use Rattle.asn_meaning.specs.Accepts.{place}
+use Rattle.asn_meaning.specs.Judge.{meaning}
 use Rattle.asn_meaning.specs.Scopes.{Scope, Empty}
 use Rattle.asn_needs.specs.Basic.{are_basic, basic_constraint}
-use Rattle.asn_needs.specs.Dummies.{filled}
-use Rattle.asn_needs.specs.Edges.{edges_at, form_edges, head_edges, is_own_edge, type_edges}
+use Rattle.asn_needs.specs.Dummies.{filled, next_place}
+use Rattle.asn_needs.specs.Edges.{arrival, edges_at, form_edges, is_arrived_at, is_own_edge, name_there}
 use Rattle.asn_needs.specs.Followed.{to_name}
 use Rattle.asn_needs.specs.Needs.{HasEdge, IsNode, nodes, nodes_in}
 use Rattle.asn_needs.specs.Sites.{Seen, seen, Site, each_of, AtHead, AType, Node, ToDefinition, ToField}
@@ -93,12 +95,37 @@ module _ (defs : Definitions) (n : ℕ) where
       ap (λ o. is_none o && (not false && elim (lists_in x.constraints) [ [] ↦ false | a ∷ others ↦ true ])) parent
       ∙ ap (λ ls. elim ls [ [] ↦ false | a ∷ others ↦ true ]) lists
 
-  head_leads : (k : Kind) (x : ReferenceLayer) → k ≡ ReferenceKind x → x.parent ≡ None → are_basic x.constraints ≡ true → (e : ToplevelTypeDefinition) → type_named defs x.identifier ≡ Some e → Contains (to_name defs x.identifier) (ToDefinition x.identifier) → (others : List Node) → Contains (if true && not (is_own_edge Empty (ReferenceKind x)) then (if is_none x.parent then to_name defs x.identifier else []) ++ others else []) (ToDefinition x.identifier)
-  head_leads k x is parent basic e typed there others =
-      subst (λ b. Contains (if true && not b then (if is_none x.parent then to_name defs x.identifier else []) ++ others else []) (ToDefinition x.identifier)) (sym (own_edge x parent (no_lists x.constraints basic)))
-      (subst (λ o. Contains ((if is_none o then to_name defs x.identifier else []) ++ others) (ToDefinition x.identifier)) (sym parent)
-      (Contains-append_left (to_name defs x.identifier) others (ToDefinition x.identifier) there))
+  -- the name at the head is followed, whatever else is
+  name_leads : (x : ReferenceLayer) → x.parent ≡ None → are_basic x.constraints ≡ true → (e : ToplevelTypeDefinition) → type_named defs x.identifier ≡ Some e → (before others : List Node) → Contains (before ++ (if true && not (is_own_edge Empty (ReferenceKind x)) then (if is_none x.parent then to_name defs x.identifier else []) ++ others else [])) (ToDefinition x.identifier)
+  name_leads x parent basic e typed before others =
+      subst (λ b. Contains (before ++ (if true && not b then (if is_none x.parent then to_name defs x.identifier else []) ++ others else [])) (ToDefinition x.identifier)) (sym (own_edge x parent (no_lists x.constraints basic)))
+      (subst (λ o. Contains (before ++ ((if is_none o then to_name defs x.identifier else []) ++ others)) (ToDefinition x.identifier)) (sym parent)
+      (Contains-append_right before (to_name defs x.identifier ++ others) (ToDefinition x.identifier)
+      (Contains-append_left (to_name defs x.identifier) others (ToDefinition x.identifier) (to_type defs x.identifier e typed))))
 
-  type_leads : (k : Kind) (x : ReferenceLayer) → k ≡ ReferenceKind x → x.parent ≡ None → are_basic x.constraints ≡ true → (e : ToplevelTypeDefinition) → type_named defs x.identifier ≡ Some e → (others : List Node) → (before : List Node) → Contains (before ++ (if true && not (is_own_edge Empty (ReferenceKind x)) then (if is_none x.parent then to_name defs x.identifier else []) ++ others else [])) (ToDefinition x.identifier)
-  type_leads k x is parent basic e typed others before =
-      Contains-append_right before _ (ToDefinition x.identifier) (head_leads k x is parent basic e typed (to_type defs x.identifier e typed) others)
+  -- what is followed behind the name
+  abbrev behind : ToplevelTypeDefinition → List Node
+  behind d =
+      let p = place (filled Empty (dummies_of d.parameterization) []) d.ty in
+      if is_arrived_at p.scope (kind_of_type d.ty) then [] else once [] (next_place (lead defs (meaning defs (suc n)) p)) (arrival S n)
+
+  abbrev followed : Option Parameterization → Kind → List Node → List Node
+  followed o k others =
+      let scope = filled Empty (dummies_of o) [] in
+      form_edges S scope k ++ (if true && not (is_own_edge scope k) then name_there defs scope k ++ others else [])
+
+  head_leads : (d : ToplevelTypeDefinition) (x : ReferenceLayer) → d.parameterization ≡ None → kind_of_type d.ty ≡ ReferenceKind x → x.parent ≡ None → are_basic x.constraints ≡ true → (e : ToplevelTypeDefinition) → type_named defs x.identifier ≡ Some e → Contains (edges_at S (first_site d)) (ToDefinition x.identifier)
+  head_leads d x free kind parent basic e typed =
+      subst (λ o. Contains (followed o (kind_of_type d.ty) (behind d)) (ToDefinition x.identifier)) (sym free)
+      (subst (λ k. Contains (followed None k (behind d)) (ToDefinition x.identifier)) (sym kind)
+      (name_leads x parent basic e typed (form_edges S Empty (ReferenceKind x)) (behind d)))
+
+  -- A definition whose type is a name needs what the name stands for.
+  pub head_edge : (name : List ℕ) (d : ToplevelTypeDefinition) (x : ReferenceLayer) → last_named defs name ≡ Some (TypeDef d) → d.parameterization ≡ None → kind_of_type d.ty ≡ ReferenceKind x → x.parent ≡ None → are_basic x.constraints ≡ true → (e : ToplevelTypeDefinition) → type_named defs x.identifier ≡ Some e → HasEdge S (ToDefinition name) (ToDefinition x.identifier)
+  head_edge name d x is free kind parent basic e typed =
+      record {
+        at = first_site d;
+        stands = at_first (is_first name d is);
+        leads = head_leads d x free kind parent basic e typed;
+        is_node = is_node defs x.identifier (TypeDef e) (type_is_last defs x.identifier e typed);
+      }

@@ -67,14 +67,15 @@ module _ (defs : Definitions) where
     integer_head n = ap (λ k. head_from (meaning defs n) (integer_named names) (lead_at defs (meaning defs n) Empty k)) is_integer
 
     number_under : (M : Meaning) (scope : Scope) (v : ASN1Value) (w : Written) → as_written v ≡ w → is_number w ≡ true → (i : ℤ) × (denoted_under defs M scope v (integer_named names) ≡ Denoted (WholeNumber i))
-    number_under M scope v (NumberWritten i) is h =
-        (i,
-        ap (λ w. if is_open_kind (kind_of (integer_named names)) then Denoted Opaque else value_denoted defs M scope (integer_named names) w) is
-        ∙ ap (λ k. if is_open_kind k then Denoted Opaque else row_or_parts (row k) (parts_row M scope (NumberWritten i) Empty k) (NumberWritten i)) is_integer)
+    number_under M scope v (NumberWritten i) is h = (
+      i,
+      ap (λ w. if is_open_kind (kind_of (integer_named names)) then Denoted Opaque else value_denoted defs M scope (integer_named names) w) is
+          ∙ ap (λ k. if is_open_kind k then Denoted Opaque else row_or_parts (row k) (parts_row M scope (NumberWritten i) Empty k) (NumberWritten i)) is_integer,
+    )
     number_under M scope v _ is h = absurd cc
 
   -- an end that is written as a number denotes it
-  end_there : (n : ℕ) (scope : Scope) (head : Place) (numbers : Option Numbers) (v : ASN1Value) → is_number (as_written v) ≡ true → (i : ℤ) × (end_denoted (meaning defs (suc (suc n))) scope (ValuesOf head numbers) v ≡ Denoted i)
+  pub end_there : (n : ℕ) (scope : Scope) (head : Place) (numbers : Option Numbers) (v : ASN1Value) → is_number (as_written v) ≡ true → (i : ℤ) × (end_denoted (meaning defs (suc (suc n))) scope (ValuesOf head numbers) v ≡ Denoted i)
   unfolding meaning step
   end_there n scope head numbers v h =
       let names = named_numbers_in (kind_of head) in
