@@ -1,5 +1,5 @@
 -- Every tree is decided under the type of a clean definition of basic forms, within steps that the heights of names tell.
-use Rattle.std.proofs.Common.{◌≡◌, ℕ, zero, suc, ◌+◌, ◌≤◌, List, [], ◌∷◌, ◌++◌, Bool, true, false, Option, Some, None, refl, sym, ap, ◌∙◌, subst, arith}
+use Rattle.std.proofs.Common.{◌≡◌, ℕ, zero, suc, ◌+◌, ◌≤◌, List, [], ◌∷◌, Bool, true, false, Option, Some, None, refl, sym, ap, ◌∙◌, subst, arith}
 use Rattle.std.specs.Prelude.{◌&&◌, ◌||◌, is_none, if◌then◌else◌}
 use Rattle.std.specs.List.{All, Contains, list_all, list_any}
 use Rattle.std.specs.Str.{bytes_eq}
@@ -13,18 +13,18 @@ use Rattle.asn_tree.specs.declared.types.SequenceOrSet.{out-SequenceOrSet}
 use Rattle.asn_tree.specs.declared.types.SequenceOrSetMember.{SequenceOrSetMember, out-SequenceOrSetMember}
 use Rattle.asn_notation.specs.Types.{constraints_at}
 use Rattle.asn_meaning.specs.Accepts.{place}
-use Rattle.asn_meaning.specs.Answers.{Answer, Yes, No, Unknown, both, answer_of, each, once}
+use Rattle.asn_meaning.specs.Answers.{Answer, Unknown, both, each, once}
 use Rattle.asn_meaning.specs.Constraints.{all_hold}
-use Rattle.asn_meaning.specs.Definitions.{see, type_named}
+use Rattle.asn_meaning.specs.Definitions.{type_named}
 use Rattle.asn_meaning.specs.Judge.{characters_at, head_accepts, meaning, member_accepts, parts_accepted, stands_for, step}
 use Rattle.asn_meaning.specs.Kinds.{Kind, ReferenceKind, kind_at}
 use Rattle.asn_meaning.specs.Layers.{MemberLayer, ReferenceLayer, StructLayer}
 use Rattle.asn_meaning.specs.Meaning.{Meaning, Member}
-use Rattle.asn_meaning.specs.Members.{and_then, is_addition_at, may_be_absent, member_names, members_from, put_in, written_member}
-use Rattle.asn_meaning.specs.Names.{Lead, IsHead, LeadsTo, instance, lead, lead_at, leading, lists_in, reference_of}
+use Rattle.asn_meaning.specs.Members.{and_then, is_addition_at, member_names, members_from, put_in, written_member}
+use Rattle.asn_meaning.specs.Names.{IsHead, LeadsTo, instance, lead, lead_at, leading, lists_in, reference_of}
 use Rattle.asn_meaning.specs.Placed.{listed}
 use Rattle.asn_meaning.specs.Ranges.{all_constraints, numbers_before}
-use Rattle.asn_meaning.specs.Scopes.{Scope, Empty, Place, bare}
+use Rattle.asn_meaning.specs.Scopes.{Empty, bare}
 use Rattle.asn_meaning.specs.Shapes.{fields_judged, is_of_kind, kind_or_parts, member_judged, struct_judged}
 use Rattle.asn_meaning.specs.ValueTrees.{ValueTree, Struct, Fields, no_field, field, Elements, Alternative, are_among, field_named}
 use Rattle.asn_tree.specs.Layers.{TypeLayer}
@@ -33,7 +33,7 @@ use Rattle.asn_needs.specs.Needs.{HasEdge, HasHeight, above, NameHasHeight}
 use Rattle.asn_needs.specs.Sites.{Seen, seen, Node, ToDefinition}
 use Rattle.asn_names.specs.declared.faults.Fault.TheVariants.{MissingDependency}
 use Rattle.asn_names.specs.Definitions.{Definitions, is_named, last_named, type_of}
-use Rattle.asn_names.specs.Decided.{HasHeights, IsDecidedIn, IsYesOrNo, level_steps, steps_of, steps_of_fields}
+use Rattle.asn_names.specs.Decided.{HasHeights, IsDecidedIn, IsYesOrNo, steps_of, steps_of_fields}
 use Rattle.asn_names.specs.Faults.{IsClean, IsSpotless, is_missing}
 use Rattle.asn_names.specs.Occurrences.{names_in, members_names, names_of, Reaches, occurs, goes_on}
 use Rattle.asn_names.proofs.HeadEdges.{head_edge, no_lists}

@@ -1,33 +1,30 @@
 -- The faults of definitions of basic form, as they stand in the relation of needs.
-use Rattle.std.proofs.Common.{◌≡◌, ℕ, zero, suc, ◌+◌, ◌<◌, List, [], ◌∷◌, length, Bool, true, false, Option, Some, None, refl, sym, ap, ◌∙◌, subst, arith}
-use Rattle.std.specs.Prelude.{ℤ, ◌↔◌, ◌&&◌, ◌||◌, is_none, is_some, not, codes, if◌then◌else◌}
+use Rattle.std.proofs.Common.{◌≡◌, ℕ, zero, suc, ◌+◌, ◌<◌, List, [], ◌∷◌, Bool, true, false, Option, Some, None, refl, sym, ap, ◌∙◌, subst, arith}
+use Rattle.std.specs.Prelude.{ℤ, ◌&&◌, ◌||◌, is_none, is_some, not, codes, if◌then◌else◌}
 use Rattle.std.specs.List.{All, Contains, list_any}
 use Rattle.std.specs.Str.{bytes_eq}
 use Rattle.std.proofs.lemmas.List.Elements.{All-contains, All-head, All-tail, All-weaker}
-use Rattle.asn_tree.specs.declared.definitions.Parameterization.{Parameterization}
 use Rattle.asn_tree.specs.declared.definitions.ToplevelDefinition.{ToplevelDefinition}
 use Rattle.asn_tree.specs.declared.definitions.ToplevelDefinition.TheVariants.{TypeDef, Value, Information}
 use Rattle.asn_tree.specs.declared.definitions.ToplevelTypeDefinition.{ToplevelTypeDefinition}
 use Rattle.asn_tree.specs.declared.objects.ASN1Information.{ASN1Information}
 use Rattle.asn_tree.specs.declared.objects.ASN1Information.TheVariants.{ObjectClass, ObjectSet, Object}
-use Rattle.asn_tree.specs.declared.types.ASN1Type.{ASN1Type, ASN1Type-F, out-ASN1Type}
+use Rattle.asn_tree.specs.declared.types.ASN1Type.{out-ASN1Type}
 use Rattle.asn_tree.specs.declared.values.ASN1Value.{ASN1Value}
-use Rattle.asn_tree.specs.Layers.{TypeLayer}
 use Rattle.asn_meaning.specs.Answers.{Denotation, Denoted, Nothing, Unsure, Within, once}
 use Rattle.asn_meaning.specs.Definitions.{built_in, see, type_in}
 use Rattle.asn_meaning.specs.Denotes.{denoted_under}
 use Rattle.asn_meaning.specs.Judge.{meaning, nothing_known, step}
 use Rattle.asn_meaning.specs.Kinds.{kind_at}
 use Rattle.asn_meaning.specs.Laws.{HeadsStay}
-use Rattle.asn_meaning.specs.Meaning.{ValuesOf}
 use Rattle.asn_meaning.specs.Ranges.{integer_of, whole_number}
 use Rattle.asn_meaning.specs.Scopes.{Scope, Empty, Place}
 use Rattle.asn_meaning.specs.ValueTrees.{ValueTree}
 use Rattle.asn_meaning.specs.Written.{Written, NumberWritten, as_written}
 use Rattle.asn_needs.specs.Arguments.{argument_wrong, form_wrong}
-use Rattle.asn_needs.specs.Basic.{AreBasic, IsBasicDefinition, basic_at, is_basic, is_number}
+use Rattle.asn_needs.specs.Basic.{AreBasic, IsBasicDefinition, is_basic, is_number}
 use Rattle.asn_needs.specs.Dummies.{is_class_name}
-use Rattle.asn_needs.specs.Faults.{Fault, Cycle, Argument, MissingDependency, NotYetInplemented, SyntaxMismatch, LinkerError, InvalidConstraintsError, FaultOf, HasCycle, its_own, of_template, IsFault, IsSomewhere, Stands, a_cycle, a_wrong_argument, a_missing_name, a_form_not_linked, a_syntax_not_followed, a_value_without_tree, a_reversed_range, has_reversed_range, rank, template_at}
+use Rattle.asn_needs.specs.Faults.{Fault, MissingDependency, FaultOf, HasCycle, its_own, of_template, IsFault, IsSomewhere, Stands, a_cycle, a_wrong_argument, a_missing_name, a_form_not_linked, a_syntax_not_followed, a_value_without_tree, a_reversed_range, has_reversed_range, rank, template_at}
 use Rattle.asn_needs.specs.Judged.{is_denoted, is_excused, is_nothing, syntax_mismatched, syntax_mismatched_at, untreed, untreed_at, value_untreed}
 use Rattle.asn_needs.specs.Missing.{form_lacks, is_long_path, name_missing, type_lacks, unsupported, unsupported_form, value_lacks}
 use Rattle.asn_needs.specs.Needs.{IsCyclic}
@@ -40,11 +37,11 @@ use Rattle.asn_names.specs.declared.faults.Fault.TheVariants as warned
 use Rattle.asn_names.specs.Definitions.{Definitions, last_named}
 use Rattle.asn_names.specs.Faults.{fault_of, is_missing}
 use Rattle.asn_names.specs.Laws.{FaultsStand}
-use Rattle.asn_names.specs.Needed.{IsAcyclic, IsOrdered, stands_as, type_occurrence}
-use Rattle.asn_names.specs.Occurrences.{names_in, names_of}
+use Rattle.asn_names.specs.Needed.{stands_as, type_occurrence}
+use Rattle.asn_names.specs.Occurrences.{names_in}
 use Rattle.asn_names.proofs.Decided.{of_last}
-use Rattle.asn_names.proofs.Places.{IsBasicForm, IsBasicSite, IsBasicType, IsNamed, instance_none, name_occurs, place_basic, place_names, same_either, type_lacks_nothing}
-use Rattle.asn_names.proofs.Settled.{both_true, end_there}
+use Rattle.asn_names.proofs.Places.{IsBasicForm, IsBasicSite, IsNamed, instance_none, name_occurs, place_basic, place_names, same_either, type_lacks_nothing}
+use Rattle.asn_names.proofs.Settled.{end_there}
 
 -- ---- tests
 
@@ -67,7 +64,7 @@ not_both false h e = absurd cc
 -- an item that passes
 some_passes : {A : Type 0} (f : A → Bool) (xs : List A) → list_any f xs ≡ true → (x : A) × Contains xs x × (f x ≡ true)
 some_passes f [] h = absurd cc
-some_passes f (x ∷ xs) h = go (f x) refl (λ g. some_passes f xs g) h
+some_passes {A = A} f (x ∷ xs) h = go (f x) refl (λ g. some_passes f xs g) h
   where
     go : (b : Bool) → f x ≡ b → (list_any f xs ≡ true → (y : A) × Contains xs y × (f y ≡ true)) → (b || list_any f xs) ≡ true → (y : A) × Contains (x ∷ xs) y × (f y ≡ true)
     go true e later g = (x, (0, omega arith, refl), e)

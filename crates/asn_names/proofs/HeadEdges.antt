@@ -1,12 +1,11 @@
 -- The edge from a definition of basic form to the name that its type is.
-use Rattle.std.proofs.Common.{◌≡◌, ℕ, zero, suc, ◌+◌, List, [], ◌∷◌, ◌++◌, length, Bool, true, false, Option, Some, None, refl, sym, ap, ◌∙◌, subst, arith}
-use Rattle.std.specs.Prelude.{◌&&◌, ◌||◌, is_none, is_some, not, codes, if◌then◌else◌}
+use Rattle.std.proofs.Common.{◌≡◌, ℕ, suc, ◌+◌, List, [], ◌∷◌, ◌++◌, Bool, true, false, Option, Some, None, refl, sym, ap, ◌∙◌, subst, arith}
+use Rattle.std.specs.Prelude.{◌&&◌, is_none, is_some, not, codes, if◌then◌else◌}
 use Rattle.std.specs.List.{Contains}
 use Rattle.std.specs.Str.{bytes_eq}
 use Rattle.std.proofs.lemmas.List.Elements.{Contains-append_left, Contains-append_right}
 use Rattle.std.proofs.lemmas.Slice.Eq.{bytes_eq-Decides}
 use Rattle.asn_tree.specs.declared.constraints.Constraint.{Constraint, Constraint-F, out-Constraint}
-use Rattle.asn_tree.specs.declared.constraints.Parameter.{Parameter}
 use Rattle.asn_tree.specs.declared.definitions.Parameterization.{Parameterization}
 use Rattle.asn_tree.specs.declared.definitions.ToplevelDefinition.{ToplevelDefinition}
 use Rattle.asn_tree.specs.declared.definitions.ToplevelDefinition.TheVariants.{TypeDef, Value, Information}
@@ -18,13 +17,13 @@ use Rattle.asn_meaning.specs.Layers.{ConstraintLayer, ReferenceLayer}
 use Rattle.asn_meaning.specs.Names.{lead, list_at, lists_in}
 use Rattle.asn_meaning.specs.Accepts.{place}
 use Rattle.asn_meaning.specs.Judge.{meaning}
-use Rattle.asn_meaning.specs.Scopes.{Scope, Empty}
+use Rattle.asn_meaning.specs.Scopes.{Empty}
 use Rattle.asn_needs.specs.Basic.{are_basic, basic_constraint}
 use Rattle.asn_needs.specs.Dummies.{filled, next_place}
 use Rattle.asn_needs.specs.Edges.{arrival, edges_at, form_edges, is_arrived_at, is_own_edge, name_there}
 use Rattle.asn_needs.specs.Followed.{to_name}
 use Rattle.asn_needs.specs.Needs.{HasEdge, IsNode, nodes, nodes_in}
-use Rattle.asn_needs.specs.Sites.{Seen, seen, Site, each_of, AtHead, AType, Node, ToDefinition, ToField}
+use Rattle.asn_needs.specs.Sites.{Seen, seen, Site, AtHead, AType, Node, ToDefinition}
 use Rattle.asn_needs.specs.Stands.{at_first, dummies_of, first_sites, node_sites, outermost}
 use Rattle.asn_names.specs.Definitions.{Definitions, is_named, last_named, name_of}
 use Rattle.asn_names.proofs.Seen.{or_else, type_is_last}

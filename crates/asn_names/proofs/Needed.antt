@@ -1,13 +1,10 @@
 -- Names and faults of definitions of basic form, as they stand in the relation of needs.
-use Rattle.std.proofs.Common.{◌≡◌, ℕ, List, Option, Some, None, refl, sym, ap, ◌∙◌, subst}
+use Rattle.std.proofs.Common.{◌≡◌, ℕ, List, sym, subst}
 use Rattle.std.specs.List.{Contains}
 use Rattle.std.proofs.lemmas.List.Elements.{All-contains}
-use Rattle.asn_tree.specs.declared.definitions.ToplevelDefinition.{ToplevelDefinition}
 use Rattle.asn_tree.specs.declared.definitions.ToplevelDefinition.TheVariants.{TypeDef, Value, Information}
-use Rattle.asn_needs.specs.Basic.{IsBasicDefinition}
-use Rattle.asn_needs.specs.Occurrences.{Occurrence, OccursIn, names_at}
+use Rattle.asn_needs.specs.Occurrences.{OccursIn, names_at}
 use Rattle.asn_needs.specs.Sites.{seen, ToDefinition}
-use Rattle.asn_names.specs.Definitions.{Definitions, last_named}
 use Rattle.asn_names.specs.Laws.{NamesOccur}
 use Rattle.asn_names.specs.Occurrences.{names_in, names_of}
 use Rattle.asn_names.specs.Needed.{type_occurrence}

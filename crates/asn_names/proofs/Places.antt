@@ -1,14 +1,11 @@
 -- The places of a definition of basic form, and the names that occur there.
-use Rattle.std.proofs.Common.{◌≡◌, ◌⊎◌, inl, inr, ℕ, zero, suc, ◌+◌, List, [], ◌∷◌, ◌++◌, map, length, Bool, true, false, Option, Some, None, refl, sym, ap, ◌∙◌, subst, arith}
+use Rattle.std.proofs.Common.{◌≡◌, ◌⊎◌, inl, inr, ℕ, zero, suc, ◌+◌, List, [], ◌∷◌, ◌++◌, map, Bool, true, false, Option, Some, None, refl, sym, ap, ◌∙◌, subst, arith}
 use Rattle.std.specs.Prelude.{ℤ, ◌&&◌, ◌||◌, is_none, is_some, if◌then◌else◌}
-use Rattle.std.specs.List.{All, Contains, list_all, list_any}
+use Rattle.std.specs.List.{All, Contains, list_all}
 use Rattle.std.proofs.lemmas.List.Elements.{All-append, All-cons, All-contains, All-nil, Contains-append_cases, Contains-append_left, Contains-append_right}
 use Rattle.asn_tree.specs.declared.constraints.Constraint.{Constraint, Constraint-F, out-Constraint}
 use Rattle.asn_tree.specs.declared.constraints.ElementOrSetOperation.{ElementOrSetOperation-F, out-ElementOrSetOperation}
-use Rattle.asn_tree.specs.declared.constraints.Parameter.{Parameter}
 use Rattle.asn_tree.specs.declared.constraints.SubtypeElement.{SubtypeElement-F, out-SubtypeElement}
-use Rattle.asn_tree.specs.declared.definitions.Parameterization.{Parameterization}
-use Rattle.asn_tree.specs.declared.definitions.ToplevelDefinition.{ToplevelDefinition}
 use Rattle.asn_tree.specs.declared.definitions.ToplevelDefinition.TheVariants.{TypeDef}
 use Rattle.asn_tree.specs.declared.definitions.ToplevelTypeDefinition.{ToplevelTypeDefinition}
 use Rattle.asn_tree.specs.declared.types.ASN1Type.{ASN1Type, ASN1Type-F, out-ASN1Type}
@@ -20,9 +17,9 @@ use Rattle.asn_notation.specs.Types.{constraints_at}
 use Rattle.asn_meaning.specs.Accepts.{place}
 use Rattle.asn_meaning.specs.Answers.{once}
 use Rattle.asn_meaning.specs.Definitions.{type_named}
-use Rattle.asn_meaning.specs.Kinds.{Kind, StructKind, ListKind, ChoiceKind, BitStringKind, ReferenceKind, kind_at, kind_of, kind_of_type}
-use Rattle.asn_meaning.specs.Layers.{ConstraintLayer, ElementLayer, MemberLayer, ReferenceLayer, StructLayer}
-use Rattle.asn_meaning.specs.Meaning.{Meaning, Member}
+use Rattle.asn_meaning.specs.Kinds.{Kind, StructKind, ListKind, ChoiceKind, BitStringKind, kind_at, kind_of}
+use Rattle.asn_meaning.specs.Layers.{ConstraintLayer, ElementLayer, MemberLayer, ReferenceLayer}
+use Rattle.asn_meaning.specs.Meaning.{Member}
 use Rattle.asn_meaning.specs.Members.{members_of}
 use Rattle.asn_meaning.specs.Names.{lists_in}
 use Rattle.asn_meaning.specs.Placed.{listed}
@@ -31,11 +28,11 @@ use Rattle.asn_meaning.specs.Written.{Written, NumberWritten, as_written}
 use Rattle.asn_needs.specs.Basic.{IsBasic, are_basic, basic_at, basic_constraint, basic_element, basic_end, basic_member, basic_set, basic_struct, has_no_names, is_basic, is_number}
 use Rattle.asn_needs.specs.Dummies.{hangs, is_class_name, is_dummy}
 use Rattle.asn_needs.specs.Missing.{reference_lacks, type_lacks}
-use Rattle.asn_needs.specs.Occurrences.{Occurrence, NeedsType, OccursAmong, OccursIn, governed_by_class, has_list, names_at, names_in_reference, names_in_type, names_in_value, names_under_class, needed_at, value_names}
-use Rattle.asn_needs.specs.PartsOfConstraints.{asked_value, constraint_parts, element_parts, end_at, end_sites, set_parts}
-use Rattle.asn_needs.specs.PartsOfTypes.{Instance, component_sites, constraint_sites, instance_at, instance_by, instance_named, instance_sites, loose_list, loose_lists, member_sites, own_constraints, struct_sites}
-use Rattle.asn_needs.specs.PartsOfValues.{free_parts, governed_parts, headless_parts, parts_under, struct_under, fields_under, value_sites}
-use Rattle.asn_needs.specs.Sites.{Seen, seen, Site, beside, each_of, Form, TypePlace, AtHead, InPlace, ValuePlace, AsEnd, AsSuch, Asked, OfValues, AType, ComponentsOf, AValue, AConstraint, ASet, AnElement, Node, ToDefinition}
+use Rattle.asn_needs.specs.Occurrences.{Occurrence, NeedsType, OccursAmong, OccursIn, governed_by_class, has_list, names_at, names_in_reference, names_in_type, needed_at, value_names}
+use Rattle.asn_needs.specs.PartsOfConstraints.{constraint_parts, element_parts, end_sites, set_parts}
+use Rattle.asn_needs.specs.PartsOfTypes.{component_sites, constraint_sites, instance_at, instance_by, instance_named, instance_sites, loose_lists, member_sites}
+use Rattle.asn_needs.specs.PartsOfValues.{free_parts, governed_parts, headless_parts, parts_under, fields_under, value_sites}
+use Rattle.asn_needs.specs.Sites.{Seen, seen, Site, beside, each_of, Form, TypePlace, AtHead, InPlace, AsEnd, AsSuch, Asked, OfValues, AType, ComponentsOf, AValue, AConstraint, ASet, AnElement, ToDefinition}
 use Rattle.asn_needs.specs.Stands.{IsPlaceOf, StandsIn, at_first, dummy_forms, first_sites, node_sites, outermost, parts, parts_at, within}
 use Rattle.asn_names.specs.Definitions.{Definitions, last_named}
 use Rattle.asn_names.specs.Occurrences.{members_names, names_in}

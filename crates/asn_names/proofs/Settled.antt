@@ -1,27 +1,26 @@
 -- What types of basic forms lead to, and what is known of ranges of numbers, within how many steps.
-use Rattle.std.proofs.Common.{◌≡◌, ℕ, zero, suc, ◌+◌, ◌≤◌, List, [], ◌∷◌, ◌++◌, Bool, true, false, Option, Some, None, refl, sym, ap, ◌∙◌, subst, arith}
-use Rattle.std.specs.Prelude.{◌&&◌, is_none, if◌then◌else◌, ℤ}
-use Rattle.std.specs.List.{list_all}
+use Rattle.std.proofs.Common.{◌≡◌, ℕ, zero, suc, ◌+◌, ◌≤◌, List, [], ◌∷◌, ◌++◌, Bool, true, false, Option, Some, None, refl, ap, ◌∙◌, arith}
+use Rattle.std.specs.Prelude.{◌&&◌, if◌then◌else◌, ℤ}
 use Rattle.asn_kinds.specs.declared.types.DistinguishedValue.{DistinguishedValue}
 use Rattle.asn_tree.specs.declared.constraints.Constraint.{Constraint, Constraint-F, out-Constraint}
 use Rattle.asn_tree.specs.declared.constraints.ElementOrSetOperation.{ElementOrSetOperation, ElementOrSetOperation-F, out-ElementOrSetOperation}
 use Rattle.asn_tree.specs.declared.constraints.SubtypeElement.{SubtypeElement, SubtypeElement-F, out-SubtypeElement}
-use Rattle.asn_tree.specs.declared.types.ASN1Type.{ASN1Type, ASN1Type-F, out-ASN1Type}
+use Rattle.asn_tree.specs.declared.types.ASN1Type.{ASN1Type}
 use Rattle.asn_tree.specs.declared.types.ASN1Type.TheVariants.{outs-Integer}
 use Rattle.asn_tree.specs.declared.values.ASN1Value.{ASN1Value}
 use Rattle.asn_tree.specs.Layers.{SetLayer}
 use Rattle.asn_meaning.specs.Accepts.{place}
-use Rattle.asn_meaning.specs.Answers.{Answer, Yes, No, Unknown, once, both, answer_of, Denotation, Denoted, Nothing, Unsure}
+use Rattle.asn_meaning.specs.Answers.{Answer, Yes, No, Unknown, once, both, answer_of, Denoted, Unsure}
 use Rattle.asn_meaning.specs.Constraints.{all_hold, chain_at, constraint_at, constraint_holds, holds_at, range_holds, number_asked, set_holds}
 use Rattle.asn_meaning.specs.Definitions.{Definitions}
 use Rattle.asn_meaning.specs.Denotes.{denoted_under, is_open_kind, parts_row, row_or_parts, value_denoted}
 use Rattle.asn_meaning.specs.Judge.{meaning, step}
-use Rattle.asn_meaning.specs.Kinds.{Kind, IntegerKind, kind_at, kind_of}
+use Rattle.asn_meaning.specs.Kinds.{IntegerKind, kind_at, kind_of}
 use Rattle.asn_meaning.specs.Layers.{ConstraintLayer, ElementLayer}
-use Rattle.asn_meaning.specs.Meaning.{Meaning, Parent, ValuesOf}
-use Rattle.asn_meaning.specs.Names.{Lead, IsHead, LeadsTo, head_from, lead, lead_at}
+use Rattle.asn_meaning.specs.Meaning.{Meaning, ValuesOf}
+use Rattle.asn_meaning.specs.Names.{IsHead, LeadsTo, head_from, lead, lead_at}
 use Rattle.asn_meaning.specs.Numbers.{Numbers, above_least, answers, below_greatest, every_number, in_both, in_either, lifted, no_number, number_sets, numbers_from, numbers_to, ranked}
-use Rattle.asn_meaning.specs.Ranges.{all_constraints, beside, end_denoted, from_low, up_to_high, integer_named, integer_of, is_free, narrowed, narrowed_at, narrowed_by_all, named_numbers_in, numbers_at_element, numbers_at_head, numbers_before, numbers_from_lead, numbers_in_set, parent_end, range, whole_number}
+use Rattle.asn_meaning.specs.Ranges.{all_constraints, beside, end_denoted, from_low, up_to_high, integer_named, is_free, narrowed, narrowed_at, narrowed_by_all, named_numbers_in, numbers_at_element, numbers_at_head, numbers_before, numbers_from_lead, numbers_in_set, parent_end, range, whole_number}
 use Rattle.asn_meaning.specs.Placed.{listed}
 use Rattle.asn_meaning.specs.Rows.{row}
 use Rattle.asn_notation.specs.Types.{constraints_of}

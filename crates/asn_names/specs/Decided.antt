@@ -1,5 +1,5 @@
 -- Trees on which Judge answers yes or no, and within how many steps.
-use Rattle.std.specs.Prelude.{ℕ, suc, ◌+◌, ◌≤◌, List}
+use Rattle.std.specs.Prelude.{ℕ, ◌+◌, ◌≤◌, List}
 use Rattle.asn_tree.specs.declared.definitions.ToplevelDefinition.{ToplevelDefinition}
 use Rattle.asn_tree.specs.declared.types.ASN1Type.{ASN1Type}
 use Rattle.asn_meaning.specs.Accepts.{judge}

@@ -1,5 +1,5 @@
 -- A definition has at most one fault: of two that stand the earlier alone is its fault.
-use Rattle.std.proofs.Common.{◌≡◌, ℕ, zero, suc, ◌+◌, ◌<◌, ◌⊎◌, inl, inr, refl, sym, ap, ◌∙◌, subst, arith}
+use Rattle.std.proofs.Common.{◌≡◌, ℕ, zero, suc, ◌+◌, ◌<◌, refl, sym, ap, ◌∙◌, subst, arith}
 use Rattle.asn_needs.specs.Faults.{Fault, Cycle, Argument, MissingDependency, NotYetInplemented, SyntaxMismatch, LinkerError, InvalidConstraintsError, rank, IsFault}
 use Rattle.asn_needs.specs.Laws.{OneFault}
 use Rattle.asn_needs.specs.Sites.{Seen, seen, Node}

@@ -1,11 +1,10 @@
 -- The edges that a place gives: the definitions and fields of classes that are followed from it.
-use Rattle.std.specs.Prelude.{ℕ, zero, suc, List, [], ◌∷◌, ◌++◌, Bool, true, false, Option, Some, None, is_some, is_none, ◌||◌, ◌&&◌, not, if◌then◌else◌}
+use Rattle.std.specs.Prelude.{ℕ, zero, suc, List, [], ◌++◌, Bool, true, false, Option, Some, None, is_some, is_none, ◌||◌, ◌&&◌, not, if◌then◌else◌}
 use Rattle.asn_tree.specs.declared.values.ASN1Value.{ASN1Value}
 use Rattle.asn_meaning.specs.Accepts.{place}
 use Rattle.asn_meaning.specs.Answers.{once}
 use Rattle.asn_meaning.specs.Definitions.{Definitions, value_named}
 use Rattle.asn_meaning.specs.Kinds.{Kind, FieldKind, ReferenceKind, SelectionKind, kind_of}
-use Rattle.asn_meaning.specs.Layers.{ReferenceLayer}
 use Rattle.asn_meaning.specs.Names.{lead}
 use Rattle.asn_meaning.specs.Scopes.{Scope, Place}
 use Rattle.asn_meaning.specs.Written.{Written, AllWritten, NameWritten, as_written}

@@ -1,7 +1,6 @@
 -- Needs: the edges between definitions and fields of classes, and what a definition needs.
-use Rattle.std.specs.Prelude.{◌≡◌, ◌⊎◌, ℕ, suc, List, [], ◌∷◌, map, Bool, true, false, ◌&&◌, is_some}
-use Rattle.std.specs.List.{Contains, list_any}
-use Rattle.std.specs.Str.{bytes_eq}
+use Rattle.std.specs.Prelude.{◌≡◌, ◌⊎◌, ℕ, suc, List, [], ◌∷◌, map, Bool, true, false, is_some}
+use Rattle.std.specs.List.{Contains}
 use Rattle.asn_tree.specs.declared.definitions.ToplevelDefinition.{ToplevelDefinition}
 use Rattle.asn_tree.specs.declared.definitions.ToplevelDefinition.TheVariants.{TypeDef, Value, Information}
 use Rattle.asn_tree.specs.declared.objects.ASN1Information.{ASN1Information}

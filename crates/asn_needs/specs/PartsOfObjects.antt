@@ -1,5 +1,5 @@
 -- What stands in an object, an object set and a class's field.
-use Rattle.std.specs.Prelude.{ℕ, List, [], ◌∷◌, ◌++◌, map, Bool, true, false, Option, Some, None, is_none, if◌then◌else◌}
+use Rattle.std.specs.Prelude.{ℕ, List, [], ◌∷◌, ◌++◌, map, Bool, false, Option, Some, None, is_none, if◌then◌else◌}
 use Rattle.asn_kinds.specs.declared.objects.ObjectSetValueOver.{ObjectSetValueOver}
 use Rattle.asn_kinds.specs.declared.objects.ObjectSetValueOver.TheVariants.{Reference, Inline}
 use Rattle.asn_tree.specs.declared.constraints.Parameter.{Parameter-F}
