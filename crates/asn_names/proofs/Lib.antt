@@ -5,7 +5,12 @@ pub mod Given
 pub mod Linked
 pub mod Occurrences
 pub mod Folds
+pub mod Settled
+pub mod HeadEdges
+pub mod Places
+pub mod Needed
 pub mod Decided
+pub mod Faulted
 pub mod Shown
 pub mod Judging
 pub mod Passing

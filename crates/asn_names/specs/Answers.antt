@@ -37,9 +37,3 @@ abbrev pub Refines : Answer → Answer → Type 0
 Refines Unknown b = Unit {0}
 Refines Yes b = b ≡ Yes
 Refines No b = b ≡ No
-
--- The answer is yes or no.
-abbrev pub IsKnown : Answer → Type 0
-IsKnown Yes = Unit {0}
-IsKnown No = Unit {0}
-IsKnown Unknown = ⊥

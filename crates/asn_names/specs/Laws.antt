@@ -1,41 +1,50 @@
 -- Laws of names and of linked definitions.
-use Rattle.std.specs.Prelude.{◌≡◌, ◌↔◌, ℕ, List, Option, Some, None, Bool, true, false}
-use Rattle.std.specs.List.{All}
+use Rattle.std.specs.Prelude.{◌≡◌, ◌↔◌, ℕ, List, Some}
+use Rattle.std.specs.List.{Contains}
 use Rattle.asn_tree.specs.Tagging.{retagged}
 use Rattle.asn_tree.specs.declared.definitions.ToplevelDefinition.{ToplevelDefinition}
 use Rattle.asn_headers.specs.declared.headers.TaggingEnvironment.{TaggingEnvironment}
-use Rattle.asn_tree.specs.declared.types.ASN1Type.{ASN1Type, ASN1Type-F, out-ASN1Type}
+use Rattle.asn_tree.specs.declared.types.ASN1Type.{ASN1Type}
 use Rattle.asn_meaning.specs.Tags.{DifferInTags}
-use Rattle.asn_names.specs.Decided.{IsDecided}
+use Rattle.asn_meaning.specs.ValueTrees.{ValueTree}
+use Rattle.asn_needs.specs.Basic.{AreBasic, IsBasicDefinition}
+use Rattle.asn_needs.specs.Faults.{Fault, FaultOf}
+use Rattle.asn_needs.specs.Occurrences.{Occurrence, OccursIn}
+use Rattle.asn_needs.specs.Sites.{seen, ToDefinition}
+use Rattle.asn_names.specs.Decided.{HasHeights, IsDecidedIn, steps_of}
 use Rattle.asn_names.specs.Definitions.{Definitions, Module, definitions_of, last_named, type_of, IsStanding}
-use Rattle.asn_names.specs.Faults.{IsClean}
+use Rattle.asn_names.specs.Faults.{IsClean, fault_of}
+use Rattle.asn_names.specs.declared.faults.Fault.{Fault as Warned}
 use Rattle.asn_names.specs.Given.{IsGiven, given_definitions}
-use Rattle.asn_names.specs.Layers.{TypeLayer}
 use Rattle.asn_names.specs.Linked.{AreLinked}
-use Rattle.asn_names.specs.Occurrences.{names_in}
-use Rattle.asn_names.specs.ValueTrees.{ValueTree}
+use Rattle.asn_names.specs.Needed.{IsAcyclic, IsOrdered, stands_as, type_occurrence}
+use Rattle.asn_names.specs.Occurrences.{names_in, names_of}
 
 -- ---- trees are decided
 
--- whether one level of a type is no type reference
-abbrev pub is_head : TypeLayer → Bool
-is_head (ASN1Type-F.ElsewhereDeclaredType x) = false
-is_head _ = true
-
--- whether a definition's own type, where it has one, is no type reference
-abbrev pub is_head_at : Option ASN1Type → Bool
-is_head_at None = true
-is_head_at (Some ty) = is_head (out-ASN1Type ty)
-
--- No definition's own type is a type reference.
-abbrev pub AreHeads : Definitions → Type 0
-AreHeads defs = All (λ d. is_head_at (type_of d) ≡ true) defs
-
--- Every tree is decided under the type of a clean definition.
+-- Every tree is decided under the type of a clean definition, where definitions have the forms of a text so far, within steps
+-- computed from the tree and the heights of the names that the definition reaches.
 abbrev pub EveryTreeDecided : Type 0
 EveryTreeDecided =
-    (defs : Definitions) → AreHeads defs → (d : ToplevelDefinition) → IsClean defs d →
-    (ty : ASN1Type) → type_of d ≡ Some ty → (t : ValueTree) → IsDecided defs ty t
+    (defs : Definitions) → AreBasic defs → (d : ToplevelDefinition) → IsBasicDefinition d → IsClean defs d →
+    (h : ℕ) → HasHeights defs h d → (ty : ASN1Type) → type_of d ≡ Some ty → (t : ValueTree) → IsDecidedIn defs (steps_of h t) ty t
+
+-- ---- names and faults in the relation of needs
+
+-- Where a definition has a basic form, what occurs in it are the names in its type, each as a type reference; whatever the
+-- number of steps.
+abbrev pub NamesOccur : Type 0
+NamesOccur =
+    (defs : Definitions) (n : ℕ) (name : List ℕ) (d : ToplevelDefinition) → last_named defs name ≡ Some d → IsBasicDefinition d →
+    (o : Occurrence) → OccursIn (seen defs n) (ToDefinition name) o ↔ (x : List ℕ) × (o ≡ type_occurrence x) × Contains (names_of d) x
+
+-- Where all definitions have basic forms, the faults that linking finds are those that stand in the relation, and no other
+-- stands: in a definition that does not need itself and whose ranges are no reversed ones.
+abbrev pub FaultsStand : Type 0
+FaultsStand =
+    (defs : Definitions) → AreBasic defs → (name : List ℕ) (d : ToplevelDefinition) → last_named defs name ≡ Some d →
+    IsAcyclic defs name → IsOrdered defs name →
+    (k : Fault) → FaultOf defs (ToDefinition name) k ↔ (f : Warned) × (fault_of defs d ≡ Some f) × (k ≡ stands_as f)
 
 -- ---- what linking gives
 

@@ -10,5 +10,6 @@ pub mod Scopes
 pub mod Layers
 pub mod Judge
 pub mod Trees
+pub mod Needed
 pub mod Decided
 pub mod Laws

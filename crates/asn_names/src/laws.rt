@@ -2,15 +2,29 @@
 //!
 //! They speak of the definitions in specs/ alone. The layers above stand on them: what they rewrite keeps its meaning.
 
-ghost use Rattle.asn_names.specs.Laws.{EveryTreeDecided, LastIsGiven, LinkedDifferInTags, RetaggingKeepsNames, StandingAreLinked};
+ghost use Rattle.asn_names.specs.Laws.{EveryTreeDecided, FaultsStand, LastIsGiven, LinkedDifferInTags, NamesOccur, RetaggingKeepsNames, StandingAreLinked};
 
-use asn_meaning::environments_change_tags;
+use asn_meaning::{environments_change_tags, heads_stay};
 
-/// Every tree is accepted or rejected by the type of a clean type definition, where no definition's own type is a type
-/// reference.
+/// Every tree is accepted or rejected by the type of a clean type definition, where definitions have the forms of a text so
+/// far: within steps computed from the tree and the heights, in the order of needs, of the names that the definition reaches.
 pub fn every_tree_decided()
     ensures { EveryTreeDecided }
 {}
+
+/// What occurs in a definition of basic form, by the relation over the whole notation, are the names in its type, each as a
+/// type reference.
+pub fn names_occur()
+    ensures { NamesOccur }
+{}
+
+/// Where definitions have basic forms, the faults that stand, by the relation over the whole notation, are those that linking
+/// finds: in a definition that does not need itself and has no reversed range.
+pub fn faults_stand()
+    ensures { FaultsStand }
+{
+    heads_stay();
+}
 
 /// The last definition of a name, once linking has given each its place, is the last of the name in the reading, as
 /// linking gives it.

@@ -1,0 +1,3 @@
+pub mod Pigeons
+pub mod Heights
+pub mod OneFault

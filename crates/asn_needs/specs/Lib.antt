@@ -1,0 +1,17 @@
+pub mod Sites
+pub mod Dummies
+pub mod PartsOfTypes
+pub mod PartsOfValues
+pub mod PartsOfConstraints
+pub mod PartsOfObjects
+pub mod Stands
+pub mod Occurrences
+pub mod Followed
+pub mod Edges
+pub mod Needs
+pub mod Arguments
+pub mod Missing
+pub mod Judged
+pub mod Faults
+pub mod Basic
+pub mod Laws
