@@ -9,6 +9,7 @@ pub mod Items
 pub mod Numbered
 pub mod Exact
 pub mod Numbers
+pub mod SettingTexts
 pub mod Walks
 pub mod Modules
 pub mod Places

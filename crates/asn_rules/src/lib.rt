@@ -26,6 +26,7 @@ mod object_rules;
 mod rule_names;
 mod rules;
 mod run;
+mod setting_pairs;
 mod type_rules;
 mod value_rules;
 mod whole;
