@@ -2,7 +2,7 @@ use Rattle.std.proofs.Common.{sym, ap, ◌∙◌}
 use Rattle.asn_numbers.specs.Enumeration.{written}
 use Rattle.asn_rules.specs.Enumerations.{added_items, fit_behind, is_among, items, root_items, root_numbers}
 use Rattle.asn_rules.proofs.Numbered.{by_short_way, short_way}
-use Rattle.asn_rules.proofs.enumerations.numbers_fit.Goals as goal
+use Rattle.asn_rules.proofs.enumerations.is_each_fitting.Goals as goal
 
 pub returns-in-Some : goal.returns-in-Some
 returns-in-Some c =
