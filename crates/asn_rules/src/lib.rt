@@ -34,6 +34,7 @@ mod whole;
 pub use due::{DuePlace, ModulePart, due_place, one_due_place};
 pub use enumerations::fit_is_exact;
 pub use expression::{ByteClass, Expression, Guard, Sight};
+pub use gaps::next_bare;
 pub use grammar::{Grammar, rule_expression};
 pub use guards::{ASN1_KEYWORDS, is_keyword, natural_number, reserved_words, whole_number};
 pub use lexical::{is_in_class, is_word_end};
