@@ -17,5 +17,7 @@ pub mod Places
 pub mod Characters
 pub mod Right
 pub mod Children
+pub mod NodeEnds
+pub mod CleanRows
 pub mod Asked
 pub mod AskedFirst

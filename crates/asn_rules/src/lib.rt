@@ -42,7 +42,7 @@ pub use marks::Mark;
 pub use node::Node;
 pub use rule_names::{numbers_are_those_of_names, reader_rule};
 pub use rules::{
-    RuleId, derive_rule, ends_at_characters, nodes_stand, one_outcome, one_tree, outcome_of,
-    try_rule,
+    RuleId, children_at_characters, derive_rule, ends_at_characters, nodes_stand, one_outcome,
+    one_tree, outcome_of, try_rule,
 };
 pub use run::{MatchFault, Outcome, TooDeep};
