@@ -50,7 +50,7 @@ pub data Course : Type 0 where
   open_ended : Course
 
 -- of rules 0 to 5
-abbrev courses : List Course
+abbrev pub courses : List Course
 courses = open_ended ∷ rests ∷ halts ∷ halts ∷ open_ended ∷ halts ∷ []
 
 abbrev then_course : Course → Course → Course
@@ -118,7 +118,7 @@ passes (choice a b) = passes a || passes b
 passes _ = false
 
 -- all of it is ASCII
-abbrev is_plain : Sight → Bool
+abbrev pub is_plain : Sight → Bool
 is_plain (bytes x) = list_all is_ascii x
 is_plain (word x) = list_all is_ascii x
 is_plain (one_of c) = is_narrow c
@@ -169,7 +169,7 @@ high_differs b y a h = grind (arith, nat_tests, a)
 
 module _ (text : List ℕ) where
   -- a byte above ASCII stands at the place
-  abbrev High : ℕ → Type 0
+  abbrev pub High : ℕ → Type 0
   High i = (i < length text) × (128 ≤ get_or text i 0)
 
   stopped : (s : Sight) (i : ℕ) → High i → stops s ≡ true → stands s (drop i text) ≡ false
@@ -190,7 +190,7 @@ module _ (text : List ℕ) where
   stopped_fails s i h e = ap (λ t. if t then ends (i + width s) else fails) (stopped s i h e)
 
   -- What is plain ends between characters.
-  abbrev Between : Ending → Type 0
+  abbrev pub Between : Ending → Type 0
   Between (ends j) = IsCharBoundary text j
   Between fails = Unit {0}
 
@@ -213,7 +213,7 @@ module _ (text : List ℕ) where
           none : starts_with nat_eq [] (c ∷ cs) ≡ true → ⊥
           none e = cc
 
-  sight_between : IsUtf8 text → (s : Sight) (i : ℕ) → IsCharBoundary text i → is_plain s ≡ true → Between (seen text s i)
+  pub sight_between : IsUtf8 text → (s : Sight) (i : ℕ) → IsCharBoundary text i → is_plain s ≡ true → Between (seen text s i)
   sight_between u s i b a = go (stands s (drop i text)) refl
     where
       at : (s : Sight) → is_plain s ≡ true → stands s (drop i text) ≡ true → IsCharBoundary text (i + width s)
@@ -233,7 +233,7 @@ module _ (text : List ℕ) where
       go false e = tt
 
   -- Where no byte above ASCII stands, a character may begin.
-  not_high : (i : ℕ) → i ≤ length text → (High i → ⊥) → IsCharBoundary text i
+  pub not_high : (i : ℕ) → i ≤ length text → (High i → ⊥) → IsCharBoundary text i
   not_high i le n = go (cases_lt i (length text)) (cases_lt (get_or text i 0) 128)
     where
       go : ((i < length text) ⊎ (length text ≤ i)) → ((get_or text i 0 < 128) ⊎ (128 ≤ get_or text i 0)) → IsCharBoundary text i
@@ -242,7 +242,7 @@ module _ (text : List ℕ) where
       go (inr ge) x = let same : length text ≡ i = omega arith in subst (IsCharBoundary text) same (IsCharBoundary-end text)
 
 module _ (rules : List Expression) (text : List ℕ) (t : List Bool) (ranks : List ℕ) (fine : checked t ranks rules t ranks ≡ true) (all_clean : list_all (clean t) rules ≡ true) (all_right : are_right rules ≡ true) (utf8 : IsUtf8 text) where
-  abbrev Follows : Course → ℕ → Ending → Type 0
+  abbrev pub Follows : Course → ℕ → Ending → Type 0
   Follows halts i o = o ≡ fails
   Follows rests i o = o ≡ ends i
   Follows open_ended i o = Unit {0}
@@ -329,7 +329,7 @@ module _ (rules : List Expression) (text : List ℕ) (t : List Bool) (ranks : Li
   guard_stops open_ended i f = tt
 
   -- Before such a byte an expression does what its course says.
-  follows : {e : Expression} {i h : ℕ} {o : Ending} → Runs rules text e i o h → High text i → Follows (course e) i o
+  pub follows : {e : Expression} {i h : ℕ} {o : Ending} → Runs rules text e i o h → High text i → Follows (course e) i o
   follows (sees {s} {i}) high = see_follows s i high
   follows (sees_mark {s = s} {i = i}) high = see_follows s i high
   follows (seq_ends {a = a} {b = b} {i = i} {j = j} {o = o} p q) high =
@@ -392,13 +392,13 @@ module _ (rules : List Expression) (text : List ℕ) (t : List Bool) (ranks : Li
       go true = b
       go false = tt
 
-  row_clean : (es : List Expression) → list_all (clean t) es ≡ true → (r : ℕ) → clean t (rule_of es r) ≡ true
+  pub row_clean : (es : List Expression) → list_all (clean t) es ≡ true → (r : ℕ) → clean t (rule_of es r) ≡ true
   row_clean [] e r = refl
   row_clean (x ∷ es) e zero = (and_both (clean t x) (list_all (clean t) es) e).0
   row_clean (x ∷ es) e (suc r) = row_clean es (and_both (clean t x) (list_all (clean t) es) e).1 r
 
   -- What begins between two characters ends between two.
-  between : {e : Expression} {i h : ℕ} {o : Ending} → Runs rules text e i o h → IsCharBoundary text i → clean t e ≡ true → Between text o
+  pub between : {e : Expression} {i h : ℕ} {o : Ending} → Runs rules text e i o h → IsCharBoundary text i → clean t e ≡ true → Between text o
   between (sees {s} {i}) b m = sight_between text utf8 s i b m
   between (sees_mark {s = s} {i = i}) b m = sight_between text utf8 s i b m
   between (seq_ends {a = a} {b = c} p q) b m = let both = and_both (clean t a) (clean t c) m in between q (between p b both.0) both.1

@@ -8,12 +8,16 @@ pub mod Bare
 pub mod Items
 pub mod Numbered
 pub mod Exact
+pub mod FarNumbers
 pub mod Numbers
+pub mod SettingTexts
 pub mod Walks
 pub mod Modules
 pub mod Places
 pub mod Characters
 pub mod Right
 pub mod Children
+pub mod NodeEnds
+pub mod CleanRows
 pub mod Asked
 pub mod AskedFirst

@@ -5,7 +5,7 @@ use Rattle.std.specs.List.{list_all}
 use Rattle.std.proofs.lemmas.Bool.Decides.{Decides-ltb, nat_tests}
 use Rattle.std.specs.Int.{w128}
 use Rattle.asn_rules.specs.Lexical.{is_digit}
-use Rattle.asn_rules.specs.Guards.{behind_word, is_empty, are_digits, decimal, is_negative, unsigned, spelled, fitting, integer, number, natural}
+use Rattle.asn_rules.specs.Guards.{is_empty, are_digits, decimal, is_negative, unsigned, spelled, fitting, integer, number, natural}
 use Rattle.asn_rules.specs.Sizes.{at_some, lengthened_by, sized, below, narrowed}
 
 -- a digit behind a number
@@ -100,11 +100,6 @@ number_plain (b ∷ bs) size s e =
     ap (λ t. if are_digits (if t then bs else b ∷ bs) then fitting 127 (if t then neg_ℤ (pos (decimal (if t then bs else b ∷ bs))) else pos (decimal (if t then bs else b ∷ bs))) else None) e
     ∙ sym (by_size false (b ∷ bs))
     ∙ ap (λ o. at_some o (λ m. fitting 127 (pos m))) (sym s)
-
--- no word stands where nothing does
-pub no_word : (word : List ℕ) → is_empty word ≡ false → behind_word word [] ≡ None
-no_word [] e = absurd cc
-no_word (w ∷ ws) e = refl
 
 pub octet_below : (bs : List ℕ) → natural 8 bs ≡ below 8 (natural 128 bs)
 octet_below bs = go (are_digits bs) (nat_lt (decimal bs) (2 ^ 128)) (nat_lt (decimal bs) (2 ^ 8)) (Decides-ltb (decimal bs) (2 ^ 128)).1 (Decides-ltb (decimal bs) (2 ^ 8)).0 refl

@@ -1,5 +1,7 @@
--- The tables of ranks are right: computed.
-use Rattle.std.proofs.Common.{◌≡◌, refl, true}
+-- The ranks are right: computed. What is computed are the numbers of the rules whose row is wrong.
+use Rattle.std.proofs.Common.{◌≡◌, ℕ, zero, suc, List, [], ◌∷◌, Bool, true, false, refl}
+use Rattle.std.specs.Prelude.{◌&&◌, ◌||◌, not}
+use Rattle.asn_rules.specs.Expression.{Expression}
 use Rattle.asn_rules.specs.First.{first, further}
 use Rattle.asn_rules.specs.LexicalRules.{lexical_rules_before}
 use Rattle.asn_rules.specs.ValueRules.{value_rules_before}
@@ -10,12 +12,42 @@ use Rattle.asn_rules.specs.HeaderRules.{header_rules_before}
 use Rattle.asn_rules.specs.DefinitionRules.{definition_rules_before}
 use Rattle.asn_rules.specs.Whole.{whole_rules}
 use Rattle.asn_rules.proofs.Ranks.{first_takes, first_ranks, whole_takes, whole_ranks}
-use Rattle.asn_rules.proofs.Total.{checked}
+use Rattle.asn_rules.proofs.Total.{takes_byte, ranks_below, checked}
+
+abbrev noted : Bool → ℕ → List ℕ → List ℕ
+noted true n ns = ns
+noted false n ns = n ∷ ns
+
+-- the numbers of the rules, from n on, whose row is wrong
+abbrev wrong_from : List Bool → List ℕ → ℕ → List Expression → List Bool → List ℕ → List ℕ
+wrong_from t ranks n (e ∷ es) (b ∷ bs) (k ∷ ks) = noted ((not b || takes_byte t e) && ranks_below t ranks k e) n (wrong_from t ranks (suc n) es bs ks)
+wrong_from t ranks n [] [] [] = []
+wrong_from t ranks n _ _ _ = n ∷ []
+
+-- Where none is wrong, all are right.
+none_wrong : (t : List Bool) (ranks : List ℕ) (n : ℕ) (es : List Expression) (bs : List Bool) (ks : List ℕ) → wrong_from t ranks n es bs ks ≡ [] → checked t ranks es bs ks ≡ true
+none_wrong t ranks n (e ∷ es) (b ∷ bs) (k ∷ ks) h = go (not b || takes_byte t e) (ranks_below t ranks k e) (none_wrong t ranks (suc n) es bs ks) h
+  where
+    go : (p q : Bool) → (wrong_from t ranks (suc n) es bs ks ≡ [] → checked t ranks es bs ks ≡ true) → noted (p && q) n (wrong_from t ranks (suc n) es bs ks) ≡ [] → (p && (q && checked t ranks es bs ks)) ≡ true
+    go true true f h = f h
+    go true false f h = absurd cc
+    go false q f h = absurd cc
+none_wrong t ranks n [] [] [] h = refl
+none_wrong t ranks n [] [] (k ∷ ks) h = absurd cc
+none_wrong t ranks n [] (b ∷ bs) ks h = absurd cc
+none_wrong t ranks n (e ∷ es) [] ks h = absurd cc
+none_wrong t ranks n (e ∷ es) (b ∷ bs) [] h = absurd cc
+
+first_wrong : wrong_from first_takes first_ranks 0 first first_takes first_ranks ≡ []
+unfolding first further lexical_rules_before
+first_wrong = refl
 
 pub first_checked : checked first_takes first_ranks first first_takes first_ranks ≡ true
-unfolding first further lexical_rules_before
-first_checked = refl
+first_checked = none_wrong first_takes first_ranks 0 first first_takes first_ranks first_wrong
+
+whole_wrong : wrong_from whole_takes whole_ranks 0 whole_rules whole_takes whole_ranks ≡ []
+unfolding whole_rules lexical_rules_before value_rules_before type_rules_before constraint_rules_before object_rules_before header_rules_before definition_rules_before
+whole_wrong = refl
 
 pub whole_checked : checked whole_takes whole_ranks whole_rules whole_takes whole_ranks ≡ true
-unfolding whole_rules lexical_rules_before value_rules_before type_rules_before constraint_rules_before object_rules_before header_rules_before definition_rules_before
-whole_checked = refl
+whole_checked = none_wrong whole_takes whole_ranks 0 whole_rules whole_takes whole_ranks whole_wrong

@@ -23,7 +23,7 @@ takes_byte t (rule r) = get_or t r false
 takes_byte t (skip r) = get_or t r false
 
 -- each rule that the expression calls before it has taken a byte ranks below k
-abbrev ranks_below : List Bool → List ℕ → ℕ → Expression → Bool
+abbrev pub ranks_below : List Bool → List ℕ → ℕ → Expression → Bool
 ranks_below t ranks k (see s) = true
 ranks_below t ranks k (marked m s) = true
 ranks_below t ranks k (seq a b) = ranks_below t ranks k a && (takes_byte t a || ranks_below t ranks k b)

@@ -373,7 +373,7 @@ module _ (rules : List Expression) (text : List ℕ) where
       go (Fail l) g eq = absurd cc
       go TooDeep g eq = absurd cc
 
-  ended_tree : (e : Expression) (i j : ℕ) (m : List Node) → i ≤ length text → Derives rules text e i j m → (h : ℕ) × Runs rules text e i (ends j) h
+  pub ended_tree : (e : Expression) (i j : ℕ) (m : List Node) → i ≤ length text → Derives rules text e i j m → (h : ℕ) × Runs rules text e i (ends j) h
   ended_tree e i j m le p =
       let x = grown_from p le in
       let g = subst (Grows e i) (x.1 x.0 (omega arith)) (grows x.0 e i le) in

@@ -1,5 +1,6 @@
 -- What a node is by the row of its rule.
 use Rattle.std.specs.Prelude.{◌≡◌, ◌≤◌, ⊤, ℕ, List, [], ◌∷◌, length}
+use Rattle.std.specs.Str.{IsCharBoundary}
 use Rattle.asn_rules.specs.declared.marks.Mark.{Mark}
 use Rattle.asn_rules.specs.Marks.{mark_number}
 use Rattle.asn_rules.specs.Expression.{Expression, rule_of}
@@ -27,3 +28,8 @@ pub record Is (rules : List Expression) (text : List ℕ) (r : ℕ) (n : Node) :
 abbrev pub AllAre : List Expression → List ℕ → ℕ → List Node → Type 0
 AllAre rules text r [] = ⊤
 AllAre rules text r (n ∷ ns) = Is rules text r n × AllAre rules text r ns
+
+-- Each of these begins and ends between two characters of the text (Unicode 3.9).
+abbrev pub AtCharacters : List ℕ → List Node → Type 0
+AtCharacters text [] = ⊤
+AtCharacters text (n ∷ ns) = IsCharBoundary text (out-Node n).start × IsCharBoundary text (out-Node n).end × AtCharacters text ns

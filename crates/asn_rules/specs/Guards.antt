@@ -3,6 +3,7 @@ use Rattle.std.specs.Prelude.{ℕ, zero, suc, ◌+◌, ◌*◌, ◌-◌, ◌^◌
 use Rattle.std.specs.Option.{is_some}
 use Rattle.std.specs.List.{starts_with, list_all, list_any}
 use Rattle.std.specs.Cmp.Lexicographic.{pointwise}
+use Rattle.asn_settings.specs.Settings.{pair_of}
 use Rattle.asn_rules.specs.Lexical.{first_in, is_digit}
 use Rattle.asn_rules.specs.declared.expression.ByteClass.TheVariants.{Blank, LineFeed}
 
@@ -162,59 +163,9 @@ four_octets bs =
 abbrev pub is_character : List ℕ → Bool
 is_character bs = is_scalar_of (four_octets (behind 123 bs))
 
--- the settings that are words (X.680 38.4)
-unfoldable pub setting_words : List (List ℕ)
-setting_words =
-    codes "Basic=Date" ∷
-    codes "Basic=Time" ∷
-    codes "Basic=Date-Time" ∷
-    codes "Basic=Interval" ∷
-    codes "Basic=Rec-Interval" ∷
-    codes "Date=C" ∷
-    codes "Date=Y" ∷
-    codes "Date=YM" ∷
-    codes "Date=YMD" ∷
-    codes "Date=YD" ∷
-    codes "Date=YW" ∷
-    codes "Date=YWD" ∷
-    codes "Year=Basic" ∷
-    codes "Year=Proleptic" ∷
-    codes "Year=Negative" ∷
-    codes "Time=H" ∷
-    codes "Time=HM" ∷
-    codes "Time=HMS" ∷
-    codes "Local-or-UTC=L" ∷
-    codes "Local-or-UTC=Z" ∷
-    codes "Local-or-UTC=LD" ∷
-    codes "Interval-type=SE" ∷
-    codes "Interval-type=D" ∷
-    codes "Interval-type=SD" ∷
-    codes "Interval-type=DE" ∷
-    codes "SE-point=Date" ∷
-    codes "SE-point=Time" ∷
-    codes "SE-point=Date-Time" ∷
-    codes "Recurrence=Unlimited" ∷
-    codes "Midnight=Start" ∷
-    codes "Midnight=End" ∷
-    []
-
--- the settings that a number follows
-unfoldable pub numbered_settings : List (List ℕ)
-numbered_settings = codes "Year=L" ∷ codes "Time=HF" ∷ codes "Time=HMF" ∷ codes "Time=HMSF" ∷ codes "Recurrence=R" ∷ []
-
--- what stands behind the word, if the bytes begin with it
-abbrev pub behind_word : List ℕ → List ℕ → Option (List ℕ)
-behind_word [] bs = Some bs
-behind_word (w ∷ ws) [] = None
-behind_word (w ∷ ws) (b ∷ bs) = if nat_eq b w then behind_word ws bs else None
-
--- digits of a number below 2^64, and nothing else
-abbrev pub is_numeral : Option (List ℕ) → Bool
-is_numeral None = false
-is_numeral (Some bs) = is_some (natural 64 bs)
-
+-- a property's name, "=", and the text of one of the property's settings (X.680 38.4 and 51.10)
 abbrev pub is_setting : List ℕ → Bool
-is_setting bs = among setting_words bs || list_any (λ w. is_numeral (behind_word w bs)) numbered_settings
+is_setting bs = is_some (pair_of (before 61 bs) (behind 61 bs))
 
 -- a digit, and a byte that is none
 abbrev pub is_time : List ℕ → Bool

@@ -1,7 +1,9 @@
--- Numbers, read digit by digit, and bytes outside blanks and comments, found one by one. Only private contracts cite these.
-use Rattle.std.specs.Prelude.{ℕ, pos, ◌+◌, ◌*◌, ◌-◌, ◌^◌, List, [], ◌∷◌, Bool, true, ◌&&◌, ◌||◌, nat_lt, Option, Some, None, if◌then◌else◌, ℤ, neg_ℤ}
+-- Numbers, read digit by digit, and bytes outside blanks and comments, found one by one. Only private contracts cite these, but for
+-- `outside`, which that of `next_bare` cites.
+use Rattle.std.specs.Prelude.{ℕ, pos, ◌+◌, ◌*◌, ◌-◌, ◌^◌, List, [], ◌∷◌, Bool, true, false, ◌&&◌, ◌||◌, nat_eq, nat_lt, Option, Some, None, if◌then◌else◌, ℤ, neg_ℤ, int_lt}
+use Rattle.std.specs.Option.{is_some}
 use Rattle.asn_rules.specs.Lexical.{is_digit}
-use Rattle.asn_rules.specs.Guards.{Place, within, onward, is_outside, is_empty, before, mantissa, fitting}
+use Rattle.asn_rules.specs.Guards.{Place, within, onward, is_outside, is_empty, before, mantissa, fitting, natural}
 use Rattle.asn_numbers.specs.Enumeration.{has, written}
 use Rattle.asn_rules.specs.Enumerations.{at_number, behind_item, given}
 use Rattle.asn_rules.specs.declared.guards.Sign.{Sign}
@@ -56,9 +58,25 @@ part All bs = bs
 part (Before mark) bs = before mark bs
 part Mantissa bs = mantissa bs
 
+-- what stands behind the word, if the bytes begin with it
+abbrev pub behind_word : List ℕ → List ℕ → Option (List ℕ)
+behind_word [] bs = Some bs
+behind_word (w ∷ ws) [] = None
+behind_word (w ∷ ws) (b ∷ bs) = if nat_eq w b then behind_word ws bs else None
+
+-- whether a number below 2^64 stands there
+abbrev pub is_numeral : Option (List ℕ) → Bool
+is_numeral None = false
+is_numeral (Some bs) = is_some (natural 64 bs)
+
 -- a number that an item of the root has: one below the end of those that are given, or one that is written
 abbrev pub is_taken : List (Option ℤ) → ℕ → ℕ → Bool
 is_taken root end n = nat_lt n end || has (written root) (pos n)
+
+-- the number that is written is below 2^126, if there is one
+abbrev pub is_far : Option ℤ → Bool
+is_far None = true
+is_far (Some z) = int_lt z (pos (2 ^ 126))
 
 -- the number behind those that the items of the root without a number are given
 abbrev pub root_end : (ℕ → Bool) → ℕ → List (Option ℤ) → Option ℕ

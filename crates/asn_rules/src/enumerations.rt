@@ -1,16 +1,17 @@
 //! The guard on enumerations: whether the numbers of the items are of 128 bits.
 //!
-//! `guards.rt` calls `numbers_fit`. No memory is taken: the items are gone through where they lie, for each number that
-//! is looked for anew.
+//! `guards.rt` calls `numbers_fit`. No memory is taken: the items are gone through where they lie, once where no addition has a
+//! number in writing that is close to 2^127, else for each number that is looked for anew.
 
 ghost use Rattle.std.specs.Prelude.{◌≡◌, ◌<◌, ◌≤◌, ◌^◌, ◌||◌, pos, nat_eq, ◌∷◌, [], length, IfSome};
+ghost use Rattle.std.specs.List.{list_all};
 ghost use Rattle.std.specs.Option.{MatchOption};
 ghost use Rattle.asn_numbers.specs.Enumeration.{has, written};
 ghost use Rattle.asn_numbers.specs.inner.Counting.{from_above, if_fits};
 ghost use Rattle.asn_rules.specs.Guards.{bare};
 ghost use Rattle.asn_rules.specs.Lexical.{is_alnum};
 ghost use Rattle.asn_rules.specs.Enumerations.{FitIsExact, additions_fit, behind_item, behind_name, given, in_parentheses, items, least_free, numbers_fit, past};
-ghost use Rattle.asn_rules.specs.Sizes.{is_taken, root_end};
+ghost use Rattle.asn_rules.specs.Sizes.{is_far, is_taken, root_end};
 
 use crate::expression::ByteClass;
 use crate::gaps::next_bare;
@@ -22,8 +23,44 @@ pub fn fit_is_exact()
     ensures { FitIsExact }
 {}
 
-// Whether the numbers of all items are of 128 bits.
+// Whether the numbers of all items are of 128 bits. Where no addition has a number in writing that is close to 2^127, they are,
+// and the items are gone through once.
 pub(crate) fn numbers_fit(taken: &[u8]) -> bool
+    ensures { result ≡ numbers_fit taken.now }
+{
+    if are_far(behind_marker(taken)) {
+        true
+    } else {
+        is_each_fitting(taken)
+    }
+}
+
+// Whether the number is below 2^126, if one is written.
+fn is_far(item: Option<i128>) -> bool
+    ensures { result ≡ is_far item }
+{
+    match item {
+        Some(number) => number < 0x4000_0000_0000_0000_0000_0000_0000_0000,
+        None => true,
+    }
+}
+
+// Whether each number that is written is below 2^126.
+fn are_far(bytes: &[u8]) -> bool
+    ensures { result ≡ list_all is_far (items bytes.now) }
+{
+    let mut rest = bytes;
+    while let Some((item, behind)) = next_item(rest) {
+        if !is_far(item) {
+            return false;
+        }
+        rest = behind;
+    }
+    true
+}
+
+// Whether the number that each item is given is of 128 bits.
+fn is_each_fitting(taken: &[u8]) -> bool
     ensures { result ≡ numbers_fit taken.now }
 {
     let root = past(taken, b'{');

@@ -1,6 +1,6 @@
 //! Blanks and comments: the bytes outside them, found one by one where they lie.
 //!
-//! The guards and the walk over an enumeration's items call `next_bare`. No memory is taken.
+//! The guards, the walk over an enumeration's items and the readers above call `next_bare`. No memory is taken.
 
 ghost use Rattle.std.specs.Prelude.{◌≡◌, ◌≤◌, ◌<◌, length, drop, IfSome, true, List, [], ◌∷◌};
 ghost use Rattle.std.specs.Option.{MatchOption};
@@ -92,9 +92,11 @@ pub(crate) fn behind_gap(bytes: &[u8]) -> &[u8]
     rest
 }
 
-// The first byte outside blanks and comments, and what follows it.
+/// The first byte outside blanks and comments (X.680 12.1.6 and 12.6), and what follows it.
+///
+/// None: there is no such byte.
 #[tactic(auto, using(crate::proofs::Bare::bare_byte, crate::proofs::Bare::bare_none))]
-pub(crate) fn next_bare(bytes: &[u8]) -> Option<(u8, &[u8])>
+pub fn next_bare(bytes: &[u8]) -> Option<(u8, &[u8])>
     ensures exact { MatchOption result (outside bytes.now ≡ []) (λ next. outside bytes.now ≡ next.0 ∷ next.1.now) }
     ensures value { MatchOption result (bare bytes.now ≡ []) (λ next. bare bytes.now ≡ next.0 ∷ bare next.1.now) }
     ensures shorter { IfSome result (λ next. length next.1.now < length bytes.now) }

@@ -8,7 +8,7 @@ ghost use Rattle.std.specs.Option.{MatchOption, is_some};
 ghost use Rattle.std.specs.List.{list_any};
 ghost use Rattle.std.specs.Cmp.Lexicographic.{pointwise};
 ghost use Rattle.asn_rules.specs.Lexical.{is_digit, keywords};
-ghost use Rattle.asn_rules.specs.Guards.{bare, among, is_empty, is_negative, unsigned, fitting, integer, number, natural, names_class, at_most, before, behind, is_range, is_exponent_mark, mantissa, behind_exponent_mark, exponent, fits_less, is_real, is_base_of, is_scalar, with_octet, is_scalar_of, is_character, setting_words, numbered_settings, behind_word, is_numeral, is_setting, is_time, has_labels};
+ghost use Rattle.asn_rules.specs.Guards.{bare, among, is_empty, is_negative, unsigned, fitting, integer, number, natural, names_class, at_most, before, behind, is_range, is_exponent_mark, mantissa, behind_exponent_mark, exponent, fits_less, is_real, is_base_of, is_scalar, with_octet, is_scalar_of, is_character, is_setting, is_time, has_labels};
 ghost use Rattle.asn_rules.specs.Allows.{allows};
 ghost use Rattle.asn_rules.specs.Sizes.{lengthened, lengthened_by, sized, below, narrowed, at_some, part, with_sign};
 
@@ -16,6 +16,7 @@ use crate::enumerations::numbers_fit;
 use crate::expression::{ByteClass, Guard};
 use crate::gaps::{behind_gap, next_bare};
 use crate::lexical::is_in_class;
+use crate::setting_pairs::is_setting;
 
 /// Reserved words, none of which can be the name of a type. A space stands between two that go together.
 pub static ASN1_KEYWORDS: [&str; 63] = [
@@ -101,10 +102,12 @@ pub fn is_keyword(taken: &[u8]) -> bool
 }
 
 // Whether the bytes outside blanks and comments are one of the words.
-fn is_one_of(words: &[&str], taken: &[u8]) -> bool
+pub(crate) fn is_one_of(words: &[&str], taken: &[u8]) -> bool
     ensures { result ≡ list_any (λ w. pointwise nat_eq (bare taken.now) w.now) words.now }
 {
-    words.iter().any(|word| is_word(taken, word.as_bytes()))
+    words
+        .iter()
+        .any(|word| is_word(taken, Stretch::All, word.as_bytes()))
 }
 
 /// The whole number that the bytes outside blanks and comments spell: an optional `-` and at least one digit. Leading
@@ -149,11 +152,12 @@ pub(crate) fn is_allowed(guard: Guard, taken: &[u8]) -> bool
 fn is_class_word(taken: &[u8]) -> bool
     ensures { result ≡ names_class (bare taken.now) }
 {
-    is_word(taken, b"TYPE-IDENTIFIER") || is_word(taken, b"ABSTRACT-SYNTAX")
+    is_word(taken, Stretch::All, b"TYPE-IDENTIFIER")
+        || is_word(taken, Stretch::All, b"ABSTRACT-SYNTAX")
 }
 
 #[tactic(auto, using(crate::proofs::Numbers::natural_below))]
-fn fits_u64(taken: &[u8]) -> bool
+pub(crate) fn fits_u64(taken: &[u8]) -> bool
     ensures { result ≡ is_some (natural 64 (bare taken.now)) }
 {
     match natural_number(taken) {
@@ -172,13 +176,13 @@ fn fits_i32(taken: &[u8]) -> bool
     }
 }
 
-// Whether the bytes outside blanks and comments are the word.
-fn is_word(taken: &[u8], word: &[u8]) -> bool
-    ensures { result ≡ pointwise nat_eq (bare taken.now) word.now }
+// Whether the stretch is the word.
+pub(crate) fn is_word(taken: &[u8], stretch: Stretch, word: &[u8]) -> bool
+    ensures { result ≡ pointwise nat_eq (part stretch (bare taken.now)) word.now }
 {
     let mut left = word;
     let mut rest = taken;
-    while let Some((byte, behind)) = next_bare(rest) {
+    while let Some((byte, behind)) = next_in(rest, stretch) {
         match left {
             [first, further @ ..] if *first == byte => left = further,
             _ => return false,
@@ -362,7 +366,7 @@ fn is_at_most(low: Option<i128>, high: Option<i128>) -> bool
 }
 
 // What follows the first of this byte outside comments; nothing where there is none.
-fn behind_first(bytes: &[u8], mark: u8) -> &[u8]
+pub(crate) fn behind_first(bytes: &[u8], mark: u8) -> &[u8]
     ensures { bare result.now ≡ behind mark (bare bytes.now) }
 {
     let mut rest = bytes;
@@ -511,104 +515,6 @@ fn is_scalar(number: u32) -> bool
     ensures { result ≡ is_scalar number }
 {
     number < 0xD800 || (0xE000 <= number && number < 0x11_0000)
-}
-
-static SETTING_WORDS: [&str; 31] = [
-    "Basic=Date",
-    "Basic=Time",
-    "Basic=Date-Time",
-    "Basic=Interval",
-    "Basic=Rec-Interval",
-    "Date=C",
-    "Date=Y",
-    "Date=YM",
-    "Date=YMD",
-    "Date=YD",
-    "Date=YW",
-    "Date=YWD",
-    "Year=Basic",
-    "Year=Proleptic",
-    "Year=Negative",
-    "Time=H",
-    "Time=HM",
-    "Time=HMS",
-    "Local-or-UTC=L",
-    "Local-or-UTC=Z",
-    "Local-or-UTC=LD",
-    "Interval-type=SE",
-    "Interval-type=D",
-    "Interval-type=SD",
-    "Interval-type=DE",
-    "SE-point=Date",
-    "SE-point=Time",
-    "SE-point=Date-Time",
-    "Recurrence=Unlimited",
-    "Midnight=Start",
-    "Midnight=End",
-];
-
-// Settings that a number follows.
-static NUMBERED_SETTINGS: [&str; 5] = [
-    "Year=L",
-    "Time=HF",
-    "Time=HMF",
-    "Time=HMSF",
-    "Recurrence=R",
-];
-
-// Whether the bytes outside blanks and comments are a property and one of its settings.
-fn is_setting(taken: &[u8]) -> bool
-    ensures { result ≡ is_setting (bare taken.now) }
-{
-    is_setting_word(taken) || is_numbered_setting(taken)
-}
-
-#[tactic(auto, unfolding(crate::specs::Guards::setting_words))]
-fn is_setting_word(taken: &[u8]) -> bool
-    ensures { result ≡ among setting_words (bare taken.now) }
-{
-    is_one_of(&SETTING_WORDS, taken)
-}
-
-#[tactic(auto, unfolding(crate::specs::Guards::numbered_settings))]
-fn is_numbered_setting(taken: &[u8]) -> bool
-    ensures { result ≡ list_any (λ w. is_numeral (behind_word w (bare taken.now))) numbered_settings }
-{
-    begins_numbered(&NUMBERED_SETTINGS, taken)
-}
-
-fn begins_numbered(words: &[&str], taken: &[u8]) -> bool
-    ensures { result ≡ list_any (λ w. is_numeral (behind_word w.now (bare taken.now))) words.now }
-{
-    words.iter().any(|word| is_numbered(taken, word.as_bytes()))
-}
-
-// Whether the word stands there, and then a number.
-fn is_numbered(taken: &[u8], word: &[u8]) -> bool
-    ensures { result ≡ is_numeral (behind_word word.now (bare taken.now)) }
-{
-    match after_word(taken, word) {
-        Some(number) => fits_u64(number),
-        None => false,
-    }
-}
-
-// What follows the word.
-#[tactic(auto, using(crate::proofs::Numbers::no_word))]
-fn after_word<'a>(taken: &'a [u8], word: &[u8]) -> Option<&'a [u8]>
-    ensures { MatchOption result (behind_word word.now (bare taken.now) ≡ None) (λ rest. behind_word word.now (bare taken.now) ≡ Some (bare rest.now)) }
-{
-    let mut left = word;
-    let mut rest = taken;
-    while let Some((byte, behind)) = next_bare(rest) {
-        match left {
-            [] => return Some(rest),
-            [first, further @ ..] if *first == byte => left = further,
-            _ => return None,
-        }
-        rest = behind;
-    }
-    if left.is_empty() { Some(rest) } else { None }
 }
 
 // Whether there are a digit and another byte.

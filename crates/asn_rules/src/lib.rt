@@ -26,6 +26,7 @@ mod object_rules;
 mod rule_names;
 mod rules;
 mod run;
+mod setting_pairs;
 mod type_rules;
 mod value_rules;
 mod whole;
@@ -33,6 +34,7 @@ mod whole;
 pub use due::{DuePlace, ModulePart, due_place, one_due_place};
 pub use enumerations::fit_is_exact;
 pub use expression::{ByteClass, Expression, Guard, Sight};
+pub use gaps::next_bare;
 pub use grammar::{Grammar, rule_expression};
 pub use guards::{ASN1_KEYWORDS, is_keyword, natural_number, reserved_words, whole_number};
 pub use lexical::{is_in_class, is_word_end};
@@ -40,7 +42,7 @@ pub use marks::Mark;
 pub use node::Node;
 pub use rule_names::{numbers_are_those_of_names, reader_rule};
 pub use rules::{
-    RuleId, derive_rule, ends_at_characters, nodes_stand, one_outcome, one_tree, outcome_of,
-    try_rule,
+    RuleId, children_at_characters, derive_rule, ends_at_characters, nodes_stand, one_outcome,
+    one_tree, outcome_of, try_rule,
 };
 pub use run::{MatchFault, Outcome, TooDeep};

@@ -6,7 +6,9 @@ ghost use Rattle.std.specs.Prelude.{◌≡◌, ◌≤◌, ℕ, List, length};
 ghost use Rattle.asn_rules.specs.Expression.{rule as rule_call};
 ghost use Rattle.std.specs.Str.{IsUtf8, IsCharBoundary};
 ghost use Rattle.asn_rules.specs.Runs.{Answers, AnswersInDepth, ExactlyOne, Runs, ends};
+ghost use Rattle.asn_rules.specs.Children.{AtCharacters, StandsBy};
 ghost use Rattle.asn_rules.specs.Grammar.{rules_of};
+ghost use Rattle.asn_rules.specs.declared.node.Node.TheViews.{out-Node};
 ghost use Rattle.asn_rules.specs.Whole.{whole_rules};
 ghost use Rattle.asn_rules.specs.Derives.{Derivation, Derives, OneTree, Stand};
 
@@ -137,4 +139,9 @@ pub fn nodes_stand()
 /// A rule that is tried between two characters of a text ends between two characters.
 pub fn ends_at_characters()
     ensures { (grammar : Grammar) (text : List ℕ) (number i j h : ℕ) → IsUtf8 text → IsCharBoundary text i → Runs (rules_of grammar) text (rule_call number) i (ends j) h → IsCharBoundary text j }
+{}
+
+/// In a text of characters, the children of a node that begins between two characters begin and end between two.
+pub fn children_at_characters()
+    ensures { (grammar : Grammar) (text : List ℕ) (node : Node) → IsUtf8 text → StandsBy (rules_of grammar) text node → IsCharBoundary text (out-Node node).start → AtCharacters text (out-Node node).children }
 {}

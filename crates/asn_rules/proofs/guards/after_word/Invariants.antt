@@ -1,9 +1,0 @@
-use Rattle.std.proofs.Common.{◌≡◌, length}
-use Rattle.asn_rules.specs.Guards.{bare, behind_word}
-use Rattle.asn_rules.proofs.guards.after_word.Given as goal
-
-abbrev pub invariant-loop-byte : goal.invariant-loop-byte
-invariant-loop-byte l = behind_word l.word (bare l.taken) ≡ behind_word l.left (bare l.rest)
-
-abbrev pub decreases-loop-byte : goal.decreases-loop-byte
-decreases-loop-byte l = length l.rest
