@@ -10,6 +10,8 @@ pub mod Numbered
 pub mod Exact
 pub mod Numbers
 pub mod Walks
+pub mod Shape
+pub mod Shapes
 pub mod Modules
 pub mod Places
 pub mod Characters
