@@ -4,8 +4,8 @@ use asn_rules::names::{
     ASN_SPEC, BOOLEAN, IDENTIFIER, NAME_LIST, NAME_TAIL, SP, VALUE_IDENTIFIER, VALUE_RANGE,
 };
 use asn_rules::{
-    Grammar, MatchFault, Outcome, RuleId, TooDeep, derive_rule, is_keyword, natural_number,
-    outcome_of, reader_rule, try_rule, whole_number,
+    DuePlace, Grammar, MatchFault, ModulePart, Outcome, RuleId, TooDeep, derive_rule, due_place,
+    is_keyword, natural_number, outcome_of, reader_rule, try_rule, whole_number,
 };
 use asn_text::Mem;
 use std::alloc::Global;
@@ -457,5 +457,62 @@ fn grows_nodes_of_calls_alone(rt: HostRuntime) {
     ) {
         Ok(Some(node)) => assert_eq!(rt; (node.end, node.children.len()), (8, 0)),
         _ => assert!(rt; false),
+    }
+}
+
+#[test]
+fn what_is_due_by_each_table(rt: HostRuntime) {
+    for (grammar, text, part, module, place) in [
+        (
+            Grammar::First,
+            "M {1 2} DEFINITIONS",
+            ModulePart::Definitions,
+            0,
+            2,
+        ),
+        (
+            Grammar::Whole,
+            "M {1 2} DEFINITIONS",
+            ModulePart::Assignment,
+            0,
+            19,
+        ),
+        (
+            Grammar::Whole,
+            "M DEFINITIONS AUTOMATIC TAGS EXTENSIBILITY IMPLIED BEGIN",
+            ModulePart::Assignment,
+            0,
+            51,
+        ),
+        (
+            Grammar::Whole,
+            "M DEFINITIONS ::= BEGIN EXPORTS ALL; IMPORTS a FROM",
+            ModulePart::Closing,
+            0,
+            37,
+        ),
+        (
+            Grammar::Whole,
+            "M DEFINITIONS ::= BEGIN A ::= NULL -- c -- ENCODING-CONTROL x",
+            ModulePart::Closing,
+            0,
+            43,
+        ),
+        (
+            Grammar::Whole,
+            "M DEFINITIONS ::= BEGIN ENCODING-CONTROL x END -- c -- N",
+            ModulePart::Definitions,
+            55,
+            56,
+        ),
+    ] {
+        assert_eq!(rt;
+            due_place(grammar, text, 512),
+            Some(DuePlace {
+                part,
+                module,
+                place,
+            })
+        );
     }
 }

@@ -1,9 +1,9 @@
 -- The children that readers ask for are there.
-use Rattle.std.proofs.Common.{◌≡◌, ℕ, suc, ◌≤◌, List, [], ◌∷◌, length, get_or, true, Ok, Option, Some, refl, sym, ap, ◌∙◌, subst, arith, inl, inr}
+use Rattle.std.proofs.Common.{◌≡◌, ℕ, suc, ◌≤◌, List, [], ◌∷◌, length, get_or, true, Some, refl, sym, ap, ◌∙◌, subst, arith, inl, inr}
 use Rattle.std.specs.Prelude.{IsSome}
 use Rattle.std.specs.List.{All}
 use Rattle.asn_rules.specs.Expression.{rule}
-use Rattle.asn_rules.specs.Derives.{Derivation, Derives}
+use Rattle.asn_rules.specs.Derives.{Derives}
 use Rattle.asn_rules.specs.First.{first}
 use Rattle.asn_rules.specs.Children.{StandsBy, Is}
 use Rattle.asn_rules.specs.Nodes.{child_of, nth_child_of, first_among, first_child_of}
@@ -15,6 +15,7 @@ use Rattle.asn_rules.proofs.Children.{AllStand, OneOf, rules_in, has_child, chil
 use Rattle.asn_rules.proofs.AskedFirst as asked
 use Rattle.asn_modules.specs.Parts.{digits_of}
 use Rattle.asn_modules.specs.Types.{IsType, is_type}
+use Rattle.asn_modules.specs.Whole.{IsNodeBy}
 use Rattle.std.specs.Prelude.{codes}
 use Rattle.asn_rules.specs.Forms.{◌·◌, literal, maybe, sp}
 use Rattle.asn_rules.specs.declared.expression.Guard.TheVariants.{FitsI128}
@@ -31,12 +32,8 @@ each_stands text n stands = children.each_stands first text n stands
 whole_is : (text : List ℕ) (j : ℕ) (n : Node) → Derives first text (rule ASN_SPEC) 0 j (n ∷ []) → Is first text ASN_SPEC n
 whole_is text j n d = is_of first text ASN_SPEC 0 j n d (omega arith)
 
-pub whole_stands : (text : List ℕ) (number i depth : ℕ) (o : Option Node) (n : Node) → Derivation first text number i depth (Ok o) → o ≡ Some n → number ≡ ASN_SPEC → i ≡ 0 → All (StandsBy first text) (out-Node n).children
-whole_stands text number i depth o n d same number_is start =
-    let at_number : Derivation first text ASN_SPEC i depth (Ok o) = subst (λ q. Derivation first text q i depth (Ok o)) number_is d in
-    let at_start : Derivation first text ASN_SPEC 0 depth (Ok o) = subst (λ i. Derivation first text ASN_SPEC i depth (Ok o)) start at_number in
-    let derived : Derivation first text ASN_SPEC 0 depth (Ok (Some n)) = subst (λ o. Derivation first text ASN_SPEC 0 depth (Ok o)) same at_start in
-    each_stands text n (whole_is text derived.0 n derived.4).stands_by
+pub whole_stands : (text : List ℕ) (n : Node) → IsNodeBy first text n → All (StandsBy first text) (out-Node n).children
+whole_stands text n by = each_stands text n (whole_is text by.0 n by.1).stands_by
 
 -- the blanks before a name
 pub name_has_blanks : (text : List ℕ) (n : Node) → Is first text IDENTIFIER n → IsSome (child_of n SP)

@@ -1,12 +1,14 @@
--- The reading of a whole text, and what is told of one that has none.
-use Rattle.std.specs.Prelude.{◌≡◌, ℕ, List, [], ◌∷◌, Some}
-use Rattle.asn_rules.specs.Expression.{rule}
+-- The reading of a whole text, and what is told of one that has none: over any table, what stands in its modules, and any
+-- function that reads a node; and over those of the first part of ASN.1.
+use Rattle.std.specs.Prelude.{◌≡◌, ℕ, List, [], ◌∷◌, Option, Some}
+use Rattle.asn_rules.specs.Expression.{Expression, rule}
 use Rattle.asn_rules.specs.First.{first}
 use Rattle.asn_rules.specs.Derives.{Derives}
 use Rattle.asn_rules.specs.declared.names.TheConstants.{ASN_SPEC}
 use Rattle.asn_rules.specs.declared.node.Node.{Node}
-use Rattle.asn_rules.specs.Due.{IsDue, context_of, reason_of}
+use Rattle.asn_rules.specs.Due.{Piece, IsDue, context_of, pieces_of, reason_of}
 use Rattle.asn_rules.specs.declared.due.ModulePart.{ModulePart}
+use Rattle.asn_rules.specs.declared.grammar.Grammar.TheVariants.{First}
 use Rattle.asn_text.specs.Report.{IsReport}
 use Rattle.asn_text.specs.declared.report.LexerError.{LexerError}
 use Rattle.asn_text.specs.declared.report.LexerErrorType.{LexerErrorType}
@@ -14,17 +16,30 @@ use Rattle.asn_text.specs.declared.report.LexerErrorType.TheVariants.{MatchingEr
 use Rattle.asn_text.specs.declared.report.ReportData.{ReportData}
 use Rattle.asn_modules.specs.Modules.{Module, reading_of}
 
--- The rule of a whole text ends from its start on, by way of a node, and this is what the node reads as.
+-- By these rules the one of a whole text ends from its start on, by way of the node.
+abbrev pub IsNodeBy : List Expression → List ℕ → Node → Type 0
+IsNodeBy rules text n = (j : ℕ) × Derives rules text (rule ASN_SPEC) 0 j (n ∷ [])
+
+-- And this is what the node reads as.
+abbrev pub IsReadingBy : {Read : Type 0} → List Expression → (List ℕ → Node → Option Read) → List ℕ → Read → Type 0
+IsReadingBy rules read text reading = (j : ℕ) × (n : Node) × Derives rules text (rule ASN_SPEC) 0 j (n ∷ []) × (read text n ≡ Some reading)
+
+-- The reading by the rules of the first part of ASN.1.
 abbrev pub IsReading : List ℕ → List Module → Type 0
-IsReading text reading = (j : ℕ) × (n : Node) × Derives first text (rule ASN_SPEC) 0 j (n ∷ []) × (reading_of text n ≡ Some reading)
+IsReading text reading = IsReadingBy first reading_of text reading
 
 abbrev pub report_of : LexerErrorType → ReportData
 report_of (MatchingError report) = report
 
--- The text lacks a part of a module, and the error tells where: the first part that does not stand, its place, and why.
-pub record IsMatchingError (text : List ℕ) (depth : ℕ) (error : LexerError) : Type 0 where
+-- The text lacks a part of a module, which is made of these pieces, and the error tells where: the first part that does not
+-- stand, its place, and why.
+pub record IsMatchingErrorBy (rules : List Expression) (pieces : List Piece) (text : List ℕ) (depth : ℕ) (error : LexerError) : Type 0 where
   pub part : ModulePart
   pub begun : ℕ
   pub place : ℕ
-  pub due : IsDue first text depth 0 part begun place
+  pub due : IsDue rules text depth pieces 0 part begun place
   pub told : IsReport text place (context_of part begun place) (reason_of part) (report_of error.kind)
+
+-- The same by the rules of the first part of ASN.1.
+abbrev pub IsMatchingError : List ℕ → ℕ → LexerError → Type 0
+IsMatchingError text depth error = IsMatchingErrorBy first (pieces_of First) text depth error

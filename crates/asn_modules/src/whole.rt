@@ -1,7 +1,9 @@
 //! Whole texts: `asn_spec`, which is all that the layer above calls.
 
-ghost use Rattle.asn_modules.specs.Whole.{IsMatchingError, IsReading};
+ghost use Rattle.asn_modules.specs.Whole.{IsMatchingError, IsMatchingErrorBy, IsNodeBy, IsReading};
+ghost use Rattle.asn_rules.specs.Due.{pieces_of};
 ghost use Rattle.asn_rules.specs.First.{first};
+ghost use Rattle.asn_rules.specs.Grammar.{rules_of};
 ghost use Rattle.asn_rules.specs.Valid.{Fails, IsDeeper, IsValid};
 ghost use Rattle.asn_modules.specs.declared.whole.SpecError.TheVariants as fault;
 ghost use Rattle.asn_text.specs.declared.report.LexerError.{LexerError as OneError};
@@ -10,7 +12,7 @@ ghost use Rattle.asn_headers.specs.declared.headers.ModuleReference.{ModuleRefer
 ghost use Rattle.std.specs.Prelude.{◌≡◌, ◌≤◌, ℕ, List as Sequence, Err, IfOk};
 
 use crate::modules::read_modules;
-use asn_rules::{Grammar, MatchFault, RuleId, derive_rule, due_place, names, one_tree};
+use asn_rules::{Grammar, MatchFault, Node, RuleId, derive_rule, due_place, names, one_tree};
 use asn_text::{LexerError, LexerErrorType, ReportData};
 use asn_tree::Reading;
 use std::alloc::Global;
@@ -31,11 +33,11 @@ pub enum SpecError {
 }
 
 /// The error of a text that the grammar fails on: the place where a module lacks a part, and the reason.
-fn matching_error(source: &str, depth: usize) -> LexerError
-    requires { Fails first source.now depth }
-    ensures { IsMatchingError source.now depth result }
+fn matching_error(grammar: Grammar, source: &str, depth: usize) -> LexerError
+    requires { Fails (rules_of grammar) source.now depth }
+    ensures { IsMatchingErrorBy (rules_of grammar) (pieces_of grammar) source.now depth result }
 {
-    let due = due_place(source, depth).unwrap();
+    let due = due_place(grammar, source, depth).unwrap();
     LexerError {
         kind: LexerErrorType::MatchingError(ReportData::at(
             source,
@@ -43,6 +45,28 @@ fn matching_error(source: &str, depth: usize) -> LexerError
             due.context(),
             due.part.reason(),
         )),
+    }
+}
+
+/// The node of a whole text by a table, or why there is none. It is for the caller to read the node.
+fn node_of(alloc: Global, grammar: Grammar, source: &str, depth: usize) -> Result<Node, SpecError>
+    ensures node { IfOk result (λ n. IsNodeBy (rules_of grammar) source.now n) }
+    ensures valid { IfOk result (λ _. IsValid (rules_of grammar) source.now depth) }
+    ensures matching { (e : OneError) → result ≡ Err (fault.Lexer e) → Fails (rules_of grammar) source.now depth × IsMatchingErrorBy (rules_of grammar) (pieces_of grammar) source.now depth e }
+    ensures deep { result ≡ Err fault.TooDeep → IsDeeper (rules_of grammar) source.now depth }
+{
+    match derive_rule(
+        alloc,
+        grammar,
+        source,
+        RuleId::new(names::ASN_SPEC),
+        0,
+        depth,
+    ) {
+        Ok(Some(node)) => Ok(node),
+        Ok(None) => Err(SpecError::Lexer(matching_error(grammar, source, depth))),
+        Err(MatchFault::TooDeep) => Err(SpecError::TooDeep),
+        Err(MatchFault::OutOfMemory) => Err(SpecError::OutOfMemory),
     }
 }
 
@@ -58,21 +82,12 @@ pub fn asn_spec(alloc: Global, source: &str, depth: usize) -> Result<Reading, Sp
     ensures matching { (e : OneError) → result ≡ Err (fault.Lexer e) → Fails first source.now depth × IsMatchingError source.now depth e }
     ensures deep { result ≡ Err fault.TooDeep → IsDeeper first source.now depth }
 {
-    match derive_rule(
-        alloc,
-        Grammar::First,
-        source,
-        RuleId::new(names::ASN_SPEC),
-        0,
-        depth,
-    ) {
-        Ok(Some(node)) => match read_modules(alloc, source.as_bytes(), node.children.as_slice()) {
+    match node_of(alloc, Grammar::First, source, depth) {
+        Ok(node) => match read_modules(alloc, source.as_bytes(), node.children.as_slice()) {
             Ok(reading) => Ok(reading),
             Err(_) => Err(SpecError::OutOfMemory),
         },
-        Ok(None) => Err(SpecError::Lexer(matching_error(source, depth))),
-        Err(MatchFault::TooDeep) => Err(SpecError::TooDeep),
-        Err(MatchFault::OutOfMemory) => Err(SpecError::OutOfMemory),
+        Err(why) => Err(why),
     }
 }
 

@@ -12,6 +12,8 @@ pub mod FarNumbers
 pub mod Numbers
 pub mod SettingTexts
 pub mod Walks
+pub mod Shape
+pub mod Shapes
 pub mod Modules
 pub mod Places
 pub mod Characters

@@ -8,7 +8,7 @@ use Rattle.asn_rules.specs.declared.due.DuePlace.{DuePlace}
 use Rattle.asn_rules.specs.Expression.{Expression, skip}
 use Rattle.asn_rules.specs.Runs.{Ending, ends, fails}
 use Rattle.asn_rules.specs.Answer.{answer, IsWithin}
-use Rattle.asn_rules.specs.Due.{Comes, Stop, all_stand, lacks, Through, at_end, missing, standing, before, itself, parts, IsDue, due_here, due_later}
+use Rattle.asn_rules.specs.Due.{Piece, optional, required, Comes, Stop, all_stand, lacks, Through, at_end, passing, missing, standing, IsDue, due_here, due_later}
 use Rattle.asn_rules.specs.declared.names.TheConstants.{SP}
 use Rattle.asn_rules.specs.declared.due.ModulePart.{ModulePart}
 use Rattle.asn_rules.specs.declared.run.Outcome.{Outcome}
@@ -46,20 +46,18 @@ module _ (rules : List Expression) (text : List ℕ) (d : ℕ) where
   no_end : {j : ℕ} → ◌≡◌ {A = Ending} (ends j) fails → ⊥
   no_end e = cc
 
-  -- and parts come to one stop
-  pub one_stop : (ps : List ModulePart) (i : ℕ) (s s' : Stop) → i ≤ length text → Through rules text d ps i s → Through rules text d ps i s' → s ≡ s'
+  -- and pieces come to one stop
+  pub one_stop : (ps : List Piece) (i : ℕ) (s s' : Stop) → i ≤ length text → Through rules text d ps i s → Through rules text d ps i s' → s ≡ s'
   one_stop ps i s s' le at_end at_end = refl
-  one_stop ps i s s' le (missing {p = p} {j = j} b f) (missing {j = j'} b' f') = ap (lacks p) (same_end (one_ending (before p) i (ends j) (ends j') le b b'))
-  one_stop ps i s s' le (missing {p = p} {j = j} b f) (standing {j = j'} {k = k} b' e' t') =
-      let same = same_end (one_ending (before p) i (ends j) (ends j') le b b') in
-      absurd (no_end (one_ending (itself p) j' (ends k) fails (end_within le b') e' (subst (λ j. Comes rules text d (itself p) j fails) same f)))
-  one_stop ps i s s' le (standing {p = p} {j = j} {k = k} b e t) (missing {j = j'} b' f') =
-      let same = same_end (one_ending (before p) i (ends j) (ends j') le b b') in
-      absurd (no_end (one_ending (itself p) j' (ends k) fails (end_within le b') (subst (λ j. Comes rules text d (itself p) j (ends k)) same e) f'))
-  one_stop ps i s s' le (standing {p = p} {ps = qs} {j = j} {k = k} b e t) (standing {j = j'} {k = k'} b' e' t') =
-      let same = same_end (one_ending (before p) i (ends j) (ends j') le b b') in
-      let same' = same_end (one_ending (itself p) j' (ends k) (ends k') (end_within le b') (subst (λ j. Comes rules text d (itself p) j (ends k)) same e) e') in
-      one_stop qs k' s s' (end_within (end_within le b') e') (subst (λ k. Through rules text d qs k s) same' t) t'
+  one_stop ps i s s' le (passing {e = e} {ps = qs} {j = j} c t) (passing {j = j'} c' t') =
+      let same = same_end (one_ending e i (ends j) (ends j') le c c') in
+      one_stop qs j' s s' (end_within le c') (subst (λ j. Through rules text d qs j s) same t) t'
+  one_stop ps i s s' le (missing f) (missing f') = refl
+  one_stop ps i s s' le (missing {e = e} f) (standing {j = j} c' t') = absurd (no_end (one_ending e i (ends j) fails le c' f))
+  one_stop ps i s s' le (standing {e = e} {j = j} c t) (missing f') = absurd (no_end (one_ending e i (ends j) fails le c f'))
+  one_stop ps i s s' le (standing {e = e} {ps = qs} {j = j} c t) (standing {j = j'} c' t') =
+      let same = same_end (one_ending e i (ends j) (ends j') le c c') in
+      one_stop qs j' s s' (end_within le c') (subst (λ j. Through rules text d qs j s) same t) t'
 
   same_lack : {p p' : ModulePart} {j j' : ℕ} → ◌≡◌ {A = Stop} (lacks p j) (lacks p' j') → (p ≡ p') × (j ≡ j')
   same_lack e = (cc, cc)
@@ -70,98 +68,96 @@ module _ (rules : List Expression) (text : List ℕ) (d : ℕ) where
   same_stand : {j k : ℕ} → ◌≡◌ {A = Stop} (all_stand j) (all_stand k) → j ≡ k
   same_stand e = cc
 
-  -- Where parts stop lies within the text.
+  -- Where pieces stop lies within the text.
   abbrev StopsWithin : Stop → Type 0
   StopsWithin (all_stand j) = j ≤ length text
   StopsWithin (lacks p j) = j ≤ length text
 
-  pub stops_within : {ps : List ModulePart} {i : ℕ} {s : Stop} → i ≤ length text → Through rules text d ps i s → StopsWithin s
+  pub stops_within : {ps : List Piece} {i : ℕ} {s : Stop} → i ≤ length text → Through rules text d ps i s → StopsWithin s
   stops_within le at_end = le
-  stops_within le (missing b f) = end_within le b
-  stops_within le (standing b e t) = stops_within (end_within (end_within le b) e) t
+  stops_within le (passing c t) = stops_within (end_within le c) t
+  stops_within le (missing f) = le
+  stops_within le (standing c t) = stops_within (end_within le c) t
 
   -- a text has one due place
-  pub one_place : (i : ℕ) (p p' : ModulePart) (f f' q q' : ℕ) → i ≤ length text → IsDue rules text d i p f q → IsDue rules text d i p' f' q' → (p ≡ p') × (f ≡ f') × (q ≡ q')
-  one_place i p p' f f' q q' le (due_here {at = at} t a b) (due_here {at = at'} t' a' b') =
-      let same = same_lack (one_stop parts i (lacks p at) (lacks p' at') le t t') in
+  pub one_place : (ps : List Piece) (i : ℕ) (p p' : ModulePart) (f f' q q' : ℕ) → i ≤ length text → IsDue rules text d ps i p f q → IsDue rules text d ps i p' f' q' → (p ≡ p') × (f ≡ f') × (q ≡ q')
+  one_place ps i p p' f f' q q' le (due_here {at = at} t a b) (due_here {at = at'} t' a' b') =
+      let same = same_lack (one_stop ps i (lacks p at) (lacks p' at') le t t') in
       (same.0, same_end (one_ending (skip SP) i (ends f) (ends f') le a a'), same_end (one_ending (skip SP) at' (ends q) (ends q') (stops_within le t') (subst (λ x. Comes rules text d (skip SP) x (ends q)) same.1 b) b'))
-  one_place i p p' f f' q q' le (due_here {at = at} t a b) (due_later {j = j} t' c lt r) = absurd (no_lack (one_stop parts i (lacks p at) (all_stand j) le t t'))
-  one_place i p p' f f' q q' le (due_later {j = j} t c lt r) (due_here {at = at} t' a b) = absurd (no_lack (one_stop parts i (lacks p' at) (all_stand j) le t' t))
-  one_place i p p' f f' q q' le (due_later {j = j} t c lt r) (due_later {j = j'} t' c' lt' r') =
-      let same = same_stand (one_stop parts i (all_stand j) (all_stand j') le t t') in
-      one_place j' p p' f f' q q' (stops_within le t') (subst (λ j. IsDue rules text d j p f q) same r) r'
+  one_place ps i p p' f f' q q' le (due_here {at = at} t a b) (due_later {j = j} t' c lt r) = absurd (no_lack (one_stop ps i (lacks p at) (all_stand j) le t t'))
+  one_place ps i p p' f f' q q' le (due_later {j = j} t c lt r) (due_here {at = at} t' a b) = absurd (no_lack (one_stop ps i (lacks p' at) (all_stand j) le t' t))
+  one_place ps i p p' f f' q q' le (due_later {j = j} t c lt r) (due_later {j = j'} t' c' lt' r') =
+      let same = same_stand (one_stop ps i (all_stand j) (all_stand j') le t t') in
+      one_place ps j' p p' f f' q q' (stops_within le t') (subst (λ j. IsDue rules text d ps j p f q) same r) r'
 
-  -- ---- one part
+  -- ---- one piece
 
   abbrev Never : Expression → ℕ → Type 0
   Never e i = (o : Ending) → Comes rules text d e i o → ⊥
 
-  abbrev NoStop : List ModulePart → ℕ → Type 0
+  abbrev NoStop : List Piece → ℕ → Type 0
   NoStop ps i = (s : Stop) → Through rules text d ps i s → ⊥
 
-  pub part_stands : {p : ModulePart} {i j k : ℕ} → Comes rules text d (before p) i (ends j) → Comes rules text d (itself p) j (ends k) → Through rules text d (p ∷ []) i (all_stand k)
-  part_stands b e = standing b e at_end
+  pub optional_never : {e : Expression} {i : ℕ} → Never e i → NoStop (optional e ∷ []) i
+  optional_never n s (passing {j = j} c t) = n (ends j) c
 
-  pub before_never : {p : ModulePart} {ps : List ModulePart} {i : ℕ} → Never (before p) i → NoStop (p ∷ ps) i
-  before_never n s (missing {j = j} b f) = n (ends j) b
-  before_never n s (standing {j = j} b e t) = n (ends j) b
+  pub optional_fails : {e : Expression} {i : ℕ} → i ≤ length text → Comes rules text d e i fails → NoStop (optional e ∷ []) i
+  optional_fails {e} {i} le f s (passing {j = j} c t) = no_end (one_ending e i (ends j) fails le c f)
 
-  pub before_fails : {p : ModulePart} {ps : List ModulePart} {i : ℕ} → i ≤ length text → Comes rules text d (before p) i fails → NoStop (p ∷ ps) i
-  before_fails {p} {ps} {i} le c s (missing {j = j} b f) = no_end (one_ending (before p) i (ends j) fails le b c)
-  before_fails {p} {ps} {i} le c s (standing {j = j} b e t) = no_end (one_ending (before p) i (ends j) fails le b c)
+  pub required_never : {p : ModulePart} {e : Expression} {i : ℕ} → Never e i → NoStop (required p e ∷ []) i
+  required_never n s (missing f) = n fails f
+  required_never n s (standing {j = j} c t) = n (ends j) c
 
-  pub itself_never : {p : ModulePart} {ps : List ModulePart} {i j : ℕ} → i ≤ length text → Comes rules text d (before p) i (ends j) → Never (itself p) j → NoStop (p ∷ ps) i
-  itself_never {p} {ps} {i} {j} le c n s (missing {j = k} b f) =
-      let same = same_end (one_ending (before p) i (ends k) (ends j) le b c) in
-      n fails (subst (λ x. Comes rules text d (itself p) x fails) same f)
-  itself_never {p} {ps} {i} {j} le c n s (standing {j = k} {k = l} b e t) =
-      let same = same_end (one_ending (before p) i (ends k) (ends j) le b c) in
-      n (ends l) (subst (λ x. Comes rules text d (itself p) x (ends l)) same e)
+  -- ---- a piece and those behind it
 
-  -- ---- a part and those behind it
+  pub on_lacks : {p : Piece} {q : ModulePart} {ps : List Piece} {i j : ℕ} → Through rules text d (p ∷ []) i (lacks q j) → Through rules text d (p ∷ ps) i (lacks q j)
+  on_lacks (passing c t) = elim t [ ]
+  on_lacks (missing f) = missing f
+  on_lacks (standing c t) = elim t [ ]
 
-  pub on_lacks : {p q : ModulePart} {ps : List ModulePart} {i j : ℕ} → Through rules text d (p ∷ []) i (lacks q j) → Through rules text d (p ∷ ps) i (lacks q j)
-  on_lacks (missing b f) = missing b f
-  on_lacks (standing {k = k} b e t) = elim t [ ]
+  pub on_stands : {p : Piece} {ps : List Piece} {i k : ℕ} {s : Stop} → Through rules text d (p ∷ []) i (all_stand k) → Through rules text d ps k s → Through rules text d (p ∷ ps) i s
+  on_stands (passing c at_end) t = passing c t
+  on_stands (standing c at_end) t = standing c t
 
-  pub on_stands : {p : ModulePart} {ps : List ModulePart} {i k : ℕ} {s : Stop} → Through rules text d (p ∷ []) i (all_stand k) → Through rules text d ps k s → Through rules text d (p ∷ ps) i s
-  on_stands (standing b e at_end) t = standing b e t
-
-  -- behind a part that stands, the others come to what all come to
-  pub behind_part : {p : ModulePart} {ps : List ModulePart} {i k : ℕ} (s : Stop) → i ≤ length text → Through rules text d (p ∷ []) i (all_stand k) → Through rules text d (p ∷ ps) i s → Through rules text d ps k s
-  behind_part {p} {ps} {i} {k} s le t (missing {j = j} b f) = absurd (no_lack (one_stop (p ∷ []) i (lacks p j) (all_stand k) le (missing b f) t))
-  behind_part {p} {ps} {i} {k} s le t (standing {k = l} b e u) =
-      let same = same_stand (one_stop (p ∷ []) i (all_stand l) (all_stand k) le (standing b e at_end) t) in
+  -- behind a piece that stands, the others come to what all come to
+  pub behind_piece : {p : Piece} {ps : List Piece} {i k : ℕ} (s : Stop) → i ≤ length text → Through rules text d (p ∷ []) i (all_stand k) → Through rules text d (p ∷ ps) i s → Through rules text d ps k s
+  behind_piece {p} {ps} {i} {k} s le t (passing {j = l} c u) =
+      let same = same_stand (one_stop (p ∷ []) i (all_stand l) (all_stand k) le (passing c at_end) t) in
+      subst (λ x. Through rules text d ps x s) same u
+  behind_piece {p} {ps} {i} {k} s le t (missing {p = q} f) = absurd (no_lack (one_stop (p ∷ []) i (lacks q i) (all_stand k) le (missing f) t))
+  behind_piece {p} {ps} {i} {k} s le t (standing {j = l} c u) =
+      let same = same_stand (one_stop (p ∷ []) i (all_stand l) (all_stand k) le (standing c at_end) t) in
       subst (λ x. Through rules text d ps x s) same u
 
-  pub deep_part : {p : ModulePart} {ps : List ModulePart} {i : ℕ} → NoStop (p ∷ []) i → NoStop (p ∷ ps) i
-  deep_part n s (missing {p = p} {j = j} b f) = n (lacks p j) (missing b f)
-  deep_part n s (standing {k = k} b e t) = n (all_stand k) (standing b e at_end)
+  pub deep_piece : {p : Piece} {ps : List Piece} {i : ℕ} → NoStop (p ∷ []) i → NoStop (p ∷ ps) i
+  deep_piece n s (passing {j = j} c t) = n (all_stand j) (passing c at_end)
+  deep_piece {i = i} n s (missing {p = p} f) = n (lacks p i) (missing f)
+  deep_piece n s (standing {j = j} c t) = n (all_stand j) (standing c at_end)
 
   -- ---- a module
 
   -- what is due from an offset on where a part is lacking is due here
-  pub none_without_module : {i at : ℕ} {p : ModulePart} → i ≤ length text → Through rules text d parts i (lacks p at) → ((j : ℕ) → Comes rules text d (skip SP) i (ends j) → ⊥) → (q : ModulePart) (f l : ℕ) → IsDue rules text d i q f l → ⊥
+  pub none_without_module : {ps : List Piece} {i at : ℕ} {p : ModulePart} → i ≤ length text → Through rules text d ps i (lacks p at) → ((j : ℕ) → Comes rules text d (skip SP) i (ends j) → ⊥) → (q : ModulePart) (f l : ℕ) → IsDue rules text d ps i q f l → ⊥
   none_without_module le t n q f l (due_here u a b) = n f a
-  none_without_module {i} {at} {p} le t n q f l (due_later {j = j} u a lt r) = no_lack (one_stop parts i (lacks p at) (all_stand j) le t u)
+  none_without_module {ps} {i} {at} {p} le t n q f l (due_later {j = j} u a lt r) = no_lack (one_stop ps i (lacks p at) (all_stand j) le t u)
 
-  pub none_without_place : {i at : ℕ} {p : ModulePart} → i ≤ length text → Through rules text d parts i (lacks p at) → ((j : ℕ) → Comes rules text d (skip SP) at (ends j) → ⊥) → (q : ModulePart) (f l : ℕ) → IsDue rules text d i q f l → ⊥
-  none_without_place {i} {at} {p} le t n q f l (due_here {at = at'} u a b) =
-      let same = (same_lack (one_stop parts i (lacks q at') (lacks p at) le u t)).1 in
+  pub none_without_place : {ps : List Piece} {i at : ℕ} {p : ModulePart} → i ≤ length text → Through rules text d ps i (lacks p at) → ((j : ℕ) → Comes rules text d (skip SP) at (ends j) → ⊥) → (q : ModulePart) (f l : ℕ) → IsDue rules text d ps i q f l → ⊥
+  none_without_place {ps} {i} {at} {p} le t n q f l (due_here {at = at'} u a b) =
+      let same = (same_lack (one_stop ps i (lacks q at') (lacks p at) le u t)).1 in
       n l (subst (λ x. Comes rules text d (skip SP) x (ends l)) same b)
-  none_without_place {i} {at} {p} le t n q f l (due_later {j = j} u a lt r) = no_lack (one_stop parts i (lacks p at) (all_stand j) le t u)
+  none_without_place {ps} {i} {at} {p} le t n q f l (due_later {j = j} u a lt r) = no_lack (one_stop ps i (lacks p at) (all_stand j) le t u)
 
   pub fails_never : {e : Expression} {i : ℕ} → i ≤ length text → Comes rules text d e i fails → (j : ℕ) → Comes rules text d e i (ends j) → ⊥
   fails_never {e} {i} le c j c' = no_end (one_ending e i (ends j) fails le c' c)
 
   -- where a module stands, what is due is due behind it
-  pub due_behind : {i j : ℕ} (p : ModulePart) (f l : ℕ) → i ≤ length text → Through rules text d parts i (all_stand j) → IsDue rules text d i p f l → ((next : ℕ) × Comes rules text d (skip SP) j (ends next) × (next < length text)) × IsDue rules text d j p f l
-  due_behind {i} {j} p f l le t (due_here {at = at} u a b) = absurd (no_lack (one_stop parts i (lacks p at) (all_stand j) le u t))
-  due_behind {i} {j} p f l le t (due_later {j = k} {next = next} u a lt r) =
-      let same = same_stand (one_stop parts i (all_stand k) (all_stand j) le u t) in
-      ((next, subst (λ x. Comes rules text d (skip SP) x (ends next)) same a, lt), subst (λ x. IsDue rules text d x p f l) same r)
+  pub due_behind : {ps : List Piece} {i j : ℕ} (p : ModulePart) (f l : ℕ) → i ≤ length text → Through rules text d ps i (all_stand j) → IsDue rules text d ps i p f l → ((next : ℕ) × Comes rules text d (skip SP) j (ends next) × (next < length text)) × IsDue rules text d ps j p f l
+  due_behind {ps} {i} {j} p f l le t (due_here {at = at} u a b) = absurd (no_lack (one_stop ps i (lacks p at) (all_stand j) le u t))
+  due_behind {ps} {i} {j} p f l le t (due_later {j = k} {next = next} u a lt r) =
+      let same = same_stand (one_stop ps i (all_stand k) (all_stand j) le u t) in
+      ((next, subst (λ x. Comes rules text d (skip SP) x (ends next)) same a, lt), subst (λ x. IsDue rules text d ps x p f l) same r)
 
-  pub deep_module : {i : ℕ} → NoStop parts i → (p : ModulePart) (f l : ℕ) → IsDue rules text d i p f l → ⊥
+  pub deep_module : {ps : List Piece} {i : ℕ} → NoStop ps i → (p : ModulePart) (f l : ℕ) → IsDue rules text d ps i p f l → ⊥
   deep_module n p f l (due_here {at = at} u a b) = n (lacks p at) u
   deep_module n p f l (due_later {j = j} u a lt r) = n (all_stand j) u
 
@@ -175,19 +171,21 @@ module _ (rules : List Expression) (text : List ℕ) (d : ℕ) where
           impossible : ◌≡◌ {A = Bool} false true → ⊥
           impossible e = cc
 
-  -- parts that stand end behind their start
-  pub forward : {ps : List ModulePart} {i j : ℕ} → i ≤ length text → Through rules text d ps i (all_stand j) → i ≤ j
+  -- pieces that stand end behind their start
+  pub forward : {ps : List Piece} {i j : ℕ} → i ≤ length text → Through rules text d ps i (all_stand j) → i ≤ j
   forward le at_end = omega arith
-  forward le (standing b e t) =
-      let x = runs_lies rules text b.1 le in
-      let y = runs_lies rules text e.1 x.1 in
-      omega (arith, x.0, y.0, forward y.1 t)
+  forward le (passing c t) =
+      let x = runs_lies rules text c.1 le in
+      omega (arith, x.0, forward x.1 t)
+  forward le (standing c t) =
+      let x = runs_lies rules text c.1 le in
+      omega (arith, x.0, forward x.1 t)
 
   -- what is found from an offset on is found from an earlier one from where the same is due
-  pub carried : {i j : ℕ} (o : Option DuePlace) → ((p : ModulePart) (f q : ℕ) → IsDue rules text d j p f q → IsDue rules text d i p f q) → ((p : ModulePart) (f q : ℕ) → IsDue rules text d i p f q → IsDue rules text d j p f q) → Found rules text d j o → Found rules text d i o
+  pub carried : {ps : List Piece} {i j : ℕ} (o : Option DuePlace) → ((p : ModulePart) (f q : ℕ) → IsDue rules text d ps j p f q → IsDue rules text d ps i p f q) → ((p : ModulePart) (f q : ℕ) → IsDue rules text d ps i p f q → IsDue rules text d ps j p f q) → Found rules text d ps j o → Found rules text d ps i o
   carried (Some x) on back f = (on x.part x.module x.place f.0, f.1, f.2)
   carried None on back f = λ p b q due. f p b q (back p b q due)
 
-  pub is_found : {i : ℕ} (o : Option DuePlace) → Found rules text d i o → ((p : ModulePart) × (f : ℕ) × (q : ℕ) × IsDue rules text d i p f q) → IsSome o
+  pub is_found : {ps : List Piece} {i : ℕ} (o : Option DuePlace) → Found rules text d ps i o → ((p : ModulePart) × (f : ℕ) × (q : ℕ) × IsDue rules text d ps i p f q) → IsSome o
   is_found (Some x) f due = refl
   is_found None f due = absurd (f due.0 due.1 due.2 due.3)

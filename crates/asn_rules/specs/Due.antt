@@ -1,30 +1,43 @@
 -- Where a text that is none of the grammar goes wrong: the first part of a module that does not stand.
-use Rattle.std.specs.Prelude.{ℕ, ◌<◌, ◌≤◌, List, [], ◌∷◌, length, codes}
+use Rattle.std.specs.Prelude.{ℕ, ◌<◌, ◌≤◌, List, [], ◌∷◌, ◌++◌, length, codes}
 use Rattle.asn_rules.specs.declared.due.ModulePart.{ModulePart}
 use Rattle.asn_rules.specs.declared.due.ModulePart.TheVariants.{Name, Definitions, Assignment, Begin, Closing}
-use Rattle.asn_rules.specs.declared.names.TheConstants.{ASSIGNMENT, DEFINITION, END, ENVIRONMENTS, IDENTIFIER, SP}
-use Rattle.asn_rules.specs.Expression.{Expression, many, rule, skip}
-use Rattle.asn_rules.specs.Forms.{keyword, literal}
+use Rattle.asn_rules.specs.declared.due.Piece as code
+use Rattle.asn_rules.specs.declared.due.Piece.TheVariants.{Optional, Required}
+use Rattle.asn_rules.specs.declared.grammar.Grammar.{Grammar}
+use Rattle.asn_rules.specs.declared.grammar.Grammar.TheVariants.{First, Whole}
+use Rattle.asn_rules.specs.declared.names.TheConstants.{ASSIGNMENT, DEFINITION, DEFINITIVE, END, ENVIRONMENTS, EXPORTS, IDENTIFIER, IMPORTS, SP}
+use Rattle.asn_rules.specs.Expression.{Expression, expression, many, rule, skip}
+use Rattle.asn_rules.specs.Forms.{keyword, maybe}
 use Rattle.asn_rules.specs.Runs.{Ending, ends, fails, Runs}
 
--- the parts that each module has, in order (X.680 13.1)
-abbrev pub parts : List ModulePart
-parts = Name ∷ Definitions ∷ Assignment ∷ Begin ∷ Closing ∷ []
+-- What stands in a module: what may stand there, and is passed over; or a part that each module has.
+pub data Piece : Type 0 where
+  optional : Expression → Piece
+  required : ModulePart → Expression → Piece
 
--- what may stand before a part
-abbrev pub before : ModulePart → Expression
-before Name = literal []
-before Definitions = literal []
-before Assignment = rule ENVIRONMENTS
-before Begin = literal []
-before Closing = many (rule DEFINITION)
+-- The code's, without its pointers.
+abbrev pub piece : code.Piece → Piece
+piece (Optional e) = optional (expression e.now)
+piece (Required part e) = required part (expression e.now)
 
-abbrev pub itself : ModulePart → Expression
-itself Name = rule IDENTIFIER
-itself Definitions = keyword (codes "DEFINITIONS")
-itself Assignment = rule ASSIGNMENT
-itself Begin = keyword (codes "BEGIN")
-itself Closing = rule END
+-- the pieces of a header, in order (X.680 13.1); what may stand between them differs
+abbrev pub header_pieces : Grammar → List Piece
+header_pieces First =
+    required Name (rule IDENTIFIER) ∷ required Definitions (keyword (codes "DEFINITIONS")) ∷ optional (rule ENVIRONMENTS) ∷
+    required Assignment (rule ASSIGNMENT) ∷ required Begin (keyword (codes "BEGIN")) ∷ []
+header_pieces Whole =
+    required Name (rule IDENTIFIER) ∷ optional (maybe (rule DEFINITIVE)) ∷
+    required Definitions (keyword (codes "DEFINITIONS")) ∷ optional (rule ENVIRONMENTS) ∷
+    required Assignment (rule ASSIGNMENT) ∷ required Begin (keyword (codes "BEGIN")) ∷
+    optional (maybe (rule EXPORTS)) ∷ optional (maybe (rule IMPORTS)) ∷ []
+
+-- and those behind it
+abbrev pub body_pieces : List Piece
+body_pieces = optional (many (rule DEFINITION)) ∷ required Closing (rule END) ∷ []
+
+abbrev pub pieces_of : Grammar → List Piece
+pieces_of grammar = header_pieces grammar ++ body_pieces
 
 -- what a reader who waits for the part is told
 abbrev pub reason_of : ModulePart → List ℕ
@@ -42,7 +55,7 @@ context_of Assignment first place = first
 context_of Begin first place = first
 context_of Closing first place = place
 
--- what parts that are tried one behind the other come to: the last one ends here, or this one does not stand, tried here
+-- what pieces that are tried one behind the other come to: the last one ends here, or this part does not stand, tried here
 pub data Stop : Type 0 where
   all_stand : ℕ → Stop
   lacks : ModulePart → ℕ → Stop
@@ -52,15 +65,16 @@ module _ (rules : List Expression) (text : List ℕ) (depth : ℕ) where
   abbrev pub Comes : Expression → ℕ → Ending → Type 0
   Comes e i o = (h : ℕ) × Runs rules text e i o h × (h ≤ depth)
 
-  -- The parts, tried one behind the other from the offset on, each behind what may stand before it, come to the stop.
-  pub data Through : List ModulePart → ℕ → Stop → Type 0 where
+  -- The pieces, tried one behind the other from the offset on, come to the stop.
+  pub data Through : List Piece → ℕ → Stop → Type 0 where
     at_end : {i : ℕ} → Through [] i (all_stand i)
-    missing : {p : ModulePart} {ps : List ModulePart} {i j : ℕ} → Comes (before p) i (ends j) → Comes (itself p) j fails → Through (p ∷ ps) i (lacks p j)
-    standing : {p : ModulePart} {ps : List ModulePart} {i j k : ℕ} {s : Stop} → Comes (before p) i (ends j) → Comes (itself p) j (ends k) → Through ps k s → Through (p ∷ ps) i s
+    passing : {e : Expression} {ps : List Piece} {i j : ℕ} {s : Stop} → Comes e i (ends j) → Through ps j s → Through (optional e ∷ ps) i s
+    missing : {p : ModulePart} {e : Expression} {ps : List Piece} {i : ℕ} → Comes e i fails → Through (required p e ∷ ps) i (lacks p i)
+    standing : {p : ModulePart} {e : Expression} {ps : List Piece} {i j : ℕ} {s : Stop} → Comes e i (ends j) → Through ps j s → Through (required p e ∷ ps) i s
 
-  -- A module is due at the start of a text, and behind each module that a byte other than blanks and comments follows. Of
-  -- the first module that lacks a part: this part, the module's first byte, and the place where the part is due, both
-  -- behind blanks and comments.
-  pub data IsDue : ℕ → ModulePart → ℕ → ℕ → Type 0 where
-    due_here : {i at first place : ℕ} {p : ModulePart} → Through parts i (lacks p at) → Comes (skip SP) i (ends first) → Comes (skip SP) at (ends place) → IsDue i p first place
-    due_later : {i j next first place : ℕ} {p : ModulePart} → Through parts i (all_stand j) → Comes (skip SP) j (ends next) → next < length text → IsDue j p first place → IsDue i p first place
+  -- A module, made of these pieces, is due at the start of a text, and behind each module that a byte other than blanks
+  -- and comments follows. Of the first module that lacks a part: this part, the module's first byte, and the place where
+  -- the part is due, both behind blanks and comments.
+  pub data IsDue (pieces : List Piece) : ℕ → ModulePart → ℕ → ℕ → Type 0 where
+    due_here : {i at first place : ℕ} {p : ModulePart} → Through pieces i (lacks p at) → Comes (skip SP) i (ends first) → Comes (skip SP) at (ends place) → IsDue pieces i p first place
+    due_later : {i j next first place : ℕ} {p : ModulePart} → Through pieces i (all_stand j) → Comes (skip SP) j (ends next) → next < length text → IsDue pieces j p first place → IsDue pieces i p first place

@@ -1,19 +1,25 @@
 //! Where a text goes wrong: the first part of a module that does not stand.
 //!
 //! The reader of whole texts asks here once the grammar has failed. The modules are gone through once more by the
-//! interpreter in `run.rt`, with no memory and no tree.
+//! interpreter in `run.rt`, with no memory and no tree. What a module is made of is a list of pieces for each table; all
+//! else is over any table.
 
-ghost use Rattle.std.specs.Prelude.{◌≡◌, ◌≤◌, ℕ, List, [], ◌∷◌, IsSome, length};
+ghost use Rattle.std.specs.Prelude.{◌≡◌, ◌≤◌, ℕ, List, [], ◌∷◌, IsSome, length, map};
 ghost use Rattle.asn_rules.specs.Expression.{expression};
-ghost use Rattle.asn_rules.specs.First.{first};
-ghost use Rattle.asn_rules.specs.Due.{before, itself, parts, reason_of, context_of, lacks, Through, IsDue};
+ghost use Rattle.asn_rules.specs.Due.{piece, pieces_of, reason_of, context_of, lacks, Through, IsDue};
 ghost use Rattle.asn_rules.specs.Attempts.{Came, Walked, Found, IsFollowed};
+ghost use Rattle.asn_rules.specs.Grammar.{rules_of};
 ghost use Rattle.asn_rules.specs.Valid.{Fails};
 ghost use Rattle.asn_rules.specs.declared.due.ModulePart.{ModulePart as OnePart};
+ghost use Rattle.asn_rules.specs.declared.grammar.Grammar.{Grammar as Table};
 
+use crate::expression::Expression::{Call, Many, Skip};
 use crate::expression::{Expression, Sight};
+use crate::forms::{EMPTY, GAP, keyword, option};
 use crate::grammar::Grammar;
-use crate::names::{ASSIGNMENT, DEFINITION, END, ENVIRONMENTS, IDENTIFIER, SP};
+use crate::names::{
+    ASSIGNMENT, DEFINITION, DEFINITIVE, END, ENVIRONMENTS, EXPORTS, IDENTIFIER, IMPORTS, SP,
+};
 use crate::run::{Outcome, run};
 
 /// A part that each module has (X.680 13.1).
@@ -72,62 +78,47 @@ impl DuePlace {
     }
 }
 
-// The parts, in order.
-const PARTS: [ModulePart; 5] = [
-    ModulePart::Name,
-    ModulePart::Definitions,
-    ModulePart::Assignment,
-    ModulePart::Begin,
-    ModulePart::Closing,
-];
-
-static NOTHING: Expression = Expression::See(Sight::Bytes(b""));
-
-static GAP: Expression = Expression::Skip(SP);
-
-static BEFORE_ASSIGNMENT: Expression = Expression::Call(ENVIRONMENTS);
-
-static BEFORE_CLOSING: Expression = Expression::Many(&Expression::Call(DEFINITION));
-
-static NAME: Expression = Expression::Call(IDENTIFIER);
-
-static DEFINITIONS: Expression = Expression::Sequence(
-    &Expression::Skip(SP),
-    &Expression::See(Sight::Word(b"DEFINITIONS")),
-);
-
-static ASSIGNED: Expression = Expression::Call(ASSIGNMENT);
-
-static BEGIN: Expression = Expression::Sequence(
-    &Expression::Skip(SP),
-    &Expression::See(Sight::Word(b"BEGIN")),
-);
-
-static CLOSING: Expression = Expression::Call(END);
-
-// What may stand before the part.
-fn before_part(part: ModulePart) -> &'static Expression
-    ensures { expression result.now ≡ before part }
-{
-    match part {
-        ModulePart::Name => &NOTHING,
-        ModulePart::Definitions => &NOTHING,
-        ModulePart::Assignment => &BEFORE_ASSIGNMENT,
-        ModulePart::Begin => &NOTHING,
-        ModulePart::Closing => &BEFORE_CLOSING,
-    }
+// What stands in a module: what may stand there, and is passed over; or a part that each module has.
+#[derive(Clone, Copy)]
+pub(crate) enum Piece {
+    Optional(&'static Expression),
+    Required(ModulePart, &'static Expression),
 }
 
-// The part itself.
-fn part_itself(part: ModulePart) -> &'static Expression
-    ensures { expression result.now ≡ itself part }
+static BLANKS_HERE: Expression = Skip(SP);
+
+// The pieces of a module in the first part of ASN.1, in order.
+static FIRST_PIECES: [Piece; 7] = [
+    Piece::Required(ModulePart::Name, &Call(IDENTIFIER)),
+    Piece::Required(ModulePart::Definitions, &keyword!(b"DEFINITIONS")),
+    Piece::Optional(&Call(ENVIRONMENTS)),
+    Piece::Required(ModulePart::Assignment, &Call(ASSIGNMENT)),
+    Piece::Required(ModulePart::Begin, &keyword!(b"BEGIN")),
+    Piece::Optional(&Many(&Call(DEFINITION))),
+    Piece::Required(ModulePart::Closing, &Call(END)),
+];
+
+// Those in the whole of it.
+static WHOLE_PIECES: [Piece; 10] = [
+    Piece::Required(ModulePart::Name, &Call(IDENTIFIER)),
+    Piece::Optional(&option!(Call(DEFINITIVE))),
+    Piece::Required(ModulePart::Definitions, &keyword!(b"DEFINITIONS")),
+    Piece::Optional(&Call(ENVIRONMENTS)),
+    Piece::Required(ModulePart::Assignment, &Call(ASSIGNMENT)),
+    Piece::Required(ModulePart::Begin, &keyword!(b"BEGIN")),
+    Piece::Optional(&option!(Call(EXPORTS))),
+    Piece::Optional(&option!(Call(IMPORTS))),
+    Piece::Optional(&Many(&Call(DEFINITION))),
+    Piece::Required(ModulePart::Closing, &Call(END)),
+];
+
+// The pieces of a module, in order.
+fn pieces(grammar: Grammar) -> &'static [Piece]
+    ensures { map piece result.now ≡ pieces_of grammar }
 {
-    match part {
-        ModulePart::Name => &NAME,
-        ModulePart::Definitions => &DEFINITIONS,
-        ModulePart::Assignment => &ASSIGNED,
-        ModulePart::Begin => &BEGIN,
-        ModulePart::Closing => &CLOSING,
+    match grammar {
+        Grammar::First => &FIRST_PIECES,
+        Grammar::Whole => &WHOLE_PIECES,
     }
 }
 
@@ -140,11 +131,11 @@ pub(crate) enum Attempt {
 }
 
 // What the expression comes to at the offset, its height aside.
-fn come_to(text: &[u8], expr: &Expression, offset: usize, depth: usize) -> Attempt
+fn come_to(grammar: Grammar, text: &[u8], expr: &Expression, offset: usize, depth: usize) -> Attempt
     requires { offset ≤ length text.now }
-    ensures { Came first text.now depth (expression expr.now) offset result }
+    ensures { Came (rules_of grammar) text.now depth (expression expr.now) offset result }
 {
-    match run(Grammar::First, text, expr, offset, depth) {
+    match run(grammar, text, expr, offset, depth) {
         Ok(
             Outcome::End {
                 offset: end,
@@ -156,7 +147,7 @@ fn come_to(text: &[u8], expr: &Expression, offset: usize, depth: usize) -> Attem
     }
 }
 
-// What parts came to that were tried one behind the other.
+// What pieces came to that were tried one behind the other.
 #[derive(Clone, Copy)]
 pub(crate) enum Walk {
     Stands(usize),
@@ -164,30 +155,33 @@ pub(crate) enum Walk {
     Deeper,
 }
 
-// One part, behind what may stand before it.
-fn walk_part(text: &[u8], part: ModulePart, offset: usize, depth: usize) -> Walk
+// One piece.
+fn walk_piece(grammar: Grammar, text: &[u8], wanted: Piece, offset: usize, depth: usize) -> Walk
     requires { offset ≤ length text.now }
-    ensures { Walked first text.now depth (part ∷ []) offset result }
+    ensures { Walked (rules_of grammar) text.now depth (piece wanted ∷ []) offset result }
 {
-    match come_to(text, before_part(part), offset, depth) {
-        Attempt::End(tried) => match come_to(text, part_itself(part), tried, depth) {
+    match wanted {
+        Piece::Optional(expr) => match come_to(grammar, text, expr, offset, depth) {
             Attempt::End(end) => Walk::Stands(end),
-            Attempt::Fail => Walk::Lacks(part, tried),
+            Attempt::Fail => Walk::Deeper,
             Attempt::TooDeep => Walk::Deeper,
         },
-        Attempt::Fail => Walk::Deeper,
-        Attempt::TooDeep => Walk::Deeper,
+        Piece::Required(part, expr) => match come_to(grammar, text, expr, offset, depth) {
+            Attempt::End(end) => Walk::Stands(end),
+            Attempt::Fail => Walk::Lacks(part, offset),
+            Attempt::TooDeep => Walk::Deeper,
+        },
     }
 }
 
-// The parts, from the offset on.
-fn walk_parts(text: &[u8], wanted: &[ModulePart], offset: usize, depth: usize) -> Walk
+// The pieces, from the offset on.
+fn walk_pieces(grammar: Grammar, text: &[u8], wanted: &[Piece], offset: usize, depth: usize) -> Walk
     requires { offset ≤ length text.now }
-    ensures { Walked first text.now depth wanted.now offset result }
+    ensures { Walked (rules_of grammar) text.now depth (map piece wanted.now) offset result }
 {
     let mut at = offset;
-    for part in wanted {
-        match walk_part(text, *part, at, depth) {
+    for one in wanted {
+        match walk_piece(grammar, text, *one, at, depth) {
             Walk::Stands(end) => at = end,
             Walk::Lacks(lacking, tried) => return Walk::Lacks(lacking, tried),
             Walk::Deeper => return Walk::Deeper,
@@ -196,16 +190,17 @@ fn walk_parts(text: &[u8], wanted: &[ModulePart], offset: usize, depth: usize) -
     Walk::Stands(at)
 }
 
-// The parts of a module.
-fn walk_module(text: &[u8], offset: usize, depth: usize) -> Walk
+// The pieces of a module.
+fn walk_module(grammar: Grammar, text: &[u8], offset: usize, depth: usize) -> Walk
     requires { offset ≤ length text.now }
-    ensures { Walked first text.now depth parts offset result }
+    ensures { Walked (rules_of grammar) text.now depth (pieces_of grammar) offset result }
 {
-    walk_parts(text, &PARTS, offset, depth)
+    walk_pieces(grammar, text, pieces(grammar), offset, depth)
 }
 
 // The place of a part that a module lacks, and of the module's first byte.
 fn place_of(
+    grammar: Grammar,
     text: &[u8],
     part: ModulePart,
     offset: usize,
@@ -213,12 +208,12 @@ fn place_of(
     depth: usize,
 ) -> Option<DuePlace>
     requires begun { offset ≤ length text.now }
-    requires lacking { Through first text.now depth parts offset (lacks part tried) }
+    requires lacking { Through (rules_of grammar) text.now depth (pieces_of grammar) offset (lacks part tried) }
     requires within { tried ≤ length text.now }
-    ensures { Found first text.now depth offset result }
+    ensures { Found (rules_of grammar) text.now depth (pieces_of grammar) offset result }
 {
-    match come_to(text, &GAP, offset, depth) {
-        Attempt::End(module) => match come_to(text, &GAP, tried, depth) {
+    match come_to(grammar, text, &BLANKS_HERE, offset, depth) {
+        Attempt::End(module) => match come_to(grammar, text, &BLANKS_HERE, tried, depth) {
             Attempt::End(place) => Some(DuePlace {
                 part,
                 module,
@@ -233,11 +228,11 @@ fn place_of(
 }
 
 // Whether a byte other than blanks and comments follows.
-fn is_followed(text: &[u8], offset: usize, depth: usize) -> bool
+fn is_followed(grammar: Grammar, text: &[u8], offset: usize, depth: usize) -> bool
     requires { offset ≤ length text.now }
-    ensures { IsFollowed first text.now depth offset result }
+    ensures { IsFollowed (rules_of grammar) text.now depth offset result }
 {
-    match come_to(text, &GAP, offset, depth) {
+    match come_to(grammar, text, &BLANKS_HERE, offset, depth) {
         Attempt::End(next) => next < text.len(),
         Attempt::Fail => false,
         Attempt::TooDeep => false,
@@ -248,27 +243,27 @@ fn is_followed(text: &[u8], offset: usize, depth: usize) -> bool
 /// where it is due. No more than `depth` calls lie within each other.
 ///
 /// There is one exactly where a part is due; in a text that the grammar fails on, within the depth, one always is.
-pub fn due_place(text: &str, depth: usize) -> Option<DuePlace>
-    ensures found { Found first text.now depth 0 result }
-    ensures always { Fails first text.now depth → IsSome result }
+pub fn due_place(grammar: Grammar, text: &str, depth: usize) -> Option<DuePlace>
+    ensures found { Found (rules_of grammar) text.now depth (pieces_of grammar) 0 result }
+    ensures always { Fails (rules_of grammar) text.now depth → IsSome result }
 {
     let bytes = text.as_bytes();
     let mut at = 0;
     loop {
-        match walk_module(bytes, at, depth) {
+        match walk_module(grammar, bytes, at, depth) {
             Walk::Stands(end) => {
-                if !is_followed(bytes, end, depth) {
+                if !is_followed(grammar, bytes, end, depth) {
                     return None;
                 }
                 at = end;
             }
-            Walk::Lacks(part, tried) => return place_of(bytes, part, at, tried, depth),
+            Walk::Lacks(part, tried) => return place_of(grammar, bytes, part, at, tried, depth),
             Walk::Deeper => return None,
         }
     }
 }
 
-/// A text has at most one due place.
+/// A text has at most one due place in each grammar.
 pub fn one_due_place()
-    ensures { (text : List ℕ) (depth : ℕ) (p p' : OnePart) (begun begun' place place' : ℕ) → IsDue first text depth 0 p begun place → IsDue first text depth 0 p' begun' place' → (p ≡ p') × (begun ≡ begun') × (place ≡ place') }
+    ensures { (grammar : Table) (text : List ℕ) (depth : ℕ) (p p' : OnePart) (begun begun' place place' : ℕ) → IsDue (rules_of grammar) text depth (pieces_of grammar) 0 p begun place → IsDue (rules_of grammar) text depth (pieces_of grammar) 0 p' begun' place' → (p ≡ p') × (begun ≡ begun') × (place ≡ place') }
 {}
