@@ -3,3 +3,4 @@ pub mod BareNumbers
 pub mod Equations
 pub mod Octets
 pub mod Views
+pub mod ExactReadings

@@ -5,3 +5,4 @@ pub mod Strings
 pub mod Identifiers
 pub mod Paths
 pub mod Reals
+pub mod Exact

@@ -11,7 +11,8 @@ use Rattle.asn_headers.specs.declared.headers.ModuleReference.{ModuleReference}
 use Rattle.asn_headers.specs.declared.headers.TaggingEnvironment.{TaggingEnvironment}
 use Rattle.asn_headers.specs.declared.headers.TaggingEnvironment.TheVariants.{Automatic, Implicit, Explicit}
 use Rattle.asn_tree.specs.declared.types.ASN1Type.{ASN1Type}
-use Rattle.asn_modules.specs.Parts.{all_some, name_of, of_some}
+use Rattle.asn_literals.specs.Parts.{all_some, of_some}
+use Rattle.asn_modules.specs.Parts.{name_of}
 use Rattle.asn_modules.specs.Types.{type_of}
 
 -- AUTOMATIC, IMPLICIT or EXPLICIT

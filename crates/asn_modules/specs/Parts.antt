@@ -1,21 +1,11 @@
 -- Names and numbers. What a reader makes of a node is nothing where the node lacks a part; no node of a derivation lacks one.
-use Rattle.std.specs.Prelude.{ℕ, ℤ, List, [], ◌∷◌, slice_range, Option, Some, None}
+use Rattle.std.specs.Prelude.{ℕ, ℤ, List, slice_range, Option, Some}
 use Rattle.std.specs.Str.Lossy.{utf8_lossy}
 use Rattle.asn_rules.specs.declared.names.TheConstants.{INTEGER_VALUE, NUMBER_I128, SP}
 use Rattle.asn_rules.specs.declared.node.Node.{Node}
 use Rattle.asn_rules.specs.declared.node.Node.TheViews.{out-Node}
 use Rattle.asn_rules.specs.Guards.{bare, number}
 use Rattle.asn_rules.specs.Nodes.{child_of, the}
-
--- what is made of a value that is there
-abbrev pub of_some : {A B : Type 0} → Option A → (A → Option B) → Option B
-of_some None f = None
-of_some (Some x) f = f x
-
--- a list of which nothing is missing
-abbrev pub all_some : {A : Type 0} → List (Option A) → Option (List A)
-all_some [] = Some []
-all_some (o ∷ os) = of_some o (λ x. of_some (all_some os) (λ xs. Some (x ∷ xs)))
 
 -- A name is its slice of the text without the blanks before it (X.680 12.2, 12.3).
 abbrev pub name_of : List ℕ → Node → Option (List ℕ)

@@ -15,7 +15,8 @@ use Rattle.asn_tree.specs.declared.types.ASN1Type.{ASN1Type, ASN1Type-F, roll-AS
 use Rattle.asn_tree.specs.declared.types.ASN1Type.TheVariants.{Boolean, Integer, ElsewhereDeclaredType}
 use Rattle.asn_tree.specs.declared.types.SequenceOrSet.{roll-SequenceOrSet}
 use Rattle.asn_tree.specs.declared.types.SequenceOrSetMember.{SequenceOrSetMember, roll-SequenceOrSetMember}
-use Rattle.asn_modules.specs.Parts.{all_some, name_of, number_of, of_some}
+use Rattle.asn_literals.specs.Parts.{all_some, of_some}
+use Rattle.asn_modules.specs.Parts.{name_of, number_of}
 
 -- the range from the first number to the second, both ends included (X.680 51.4)
 abbrev pub range_element : ℤ → ℤ → Constraint

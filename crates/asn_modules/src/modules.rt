@@ -110,7 +110,7 @@ fn read_definition(alloc: Global, text: &[u8], node: &Node) -> Mem<ToplevelDefin
     )
 }
 
-#[tactic(auto, using(crate::proofs::Views::as_rule, crate::proofs::Equations::takes_next, crate::proofs::Equations::passes_next))]
+#[tactic(auto, using(crate::proofs::Views::as_rule, asn_literals::proofs::Equations::takes_next, asn_literals::proofs::Equations::passes_next))]
 fn read_definitions(alloc: Global, text: &[u8], nodes: &[Node]) -> Mem<List<ToplevelDefinition>>
     requires { All (StandsBy first text.now) nodes.now }
     ensures { IfOk result (λ ds. definitions_of text.now nodes.now ≡ Some ds) }
@@ -140,7 +140,7 @@ fn read_module(
 }
 
 /// The modules of a whole text.
-#[tactic(auto, using(crate::proofs::Views::as_rule, crate::proofs::Equations::takes_next, crate::proofs::Equations::passes_next))]
+#[tactic(auto, using(crate::proofs::Views::as_rule, asn_literals::proofs::Equations::takes_next, asn_literals::proofs::Equations::passes_next))]
 pub(crate) fn read_modules(alloc: Global, text: &[u8], nodes: &[Node]) -> Mem<Reading>
     requires { All (StandsBy first text.now) nodes.now }
     ensures { IfOk result (λ ms. modules_of text.now nodes.now ≡ Some ms) }

@@ -1,6 +1,6 @@
 //! Types, their members and their constraints.
 
-ghost use Rattle.asn_modules.specs.Parts.{all_some};
+ghost use Rattle.asn_literals.specs.Parts.{all_some};
 ghost use Rattle.asn_modules.specs.Types.{IsType, component_of, components_of, constraint_of, given_of, integer_of, member_of, reference_of, range_element, sequence_of, type_of, body_of, a_boolean, a_struct, a_member};
 ghost use Rattle.asn_rules.specs.Children.{Is, StandsBy};
 ghost use Rattle.asn_rules.specs.First.{first};
@@ -152,7 +152,7 @@ fn read_components(alloc: Global, text: &[u8], node: &Node) -> Mem<List<Sequence
 }
 
 #[cycle(reading)]
-#[tactic(auto, using(crate::proofs::Views::as_rule, crate::proofs::Equations::takes_next, crate::proofs::Equations::passes_next))]
+#[tactic(auto, using(crate::proofs::Views::as_rule, asn_literals::proofs::Equations::takes_next, asn_literals::proofs::Equations::passes_next))]
 fn read_component_list(alloc: Global, text: &[u8], nodes: &[Node]) -> Mem<List<SequenceOrSetMember>>
     requires { All (StandsBy first text.now) nodes.now }
     ensures { IfOk result (λ ms. all_some (at_children nodes.now SEQUENCE_COMPONENT (component_of text.now)) ≡ Some ms) }

@@ -1,5 +1,5 @@
 use Rattle.std.proofs.Common.{◌≡◌, drop}
-use Rattle.asn_modules.proofs.Equations.{behind}
+use Rattle.asn_literals.proofs.Equations.{behind}
 use Rattle.asn_modules.specs.Modules.{definitions_of}
 use Rattle.asn_modules.proofs.modules.read_definitions.Given as goal
 

@@ -1,8 +1,8 @@
 use Rattle.std.proofs.Common.{◌≡◌, drop}
 use Rattle.asn_rules.specs.Nodes.{at_children}
 use Rattle.asn_rules.specs.declared.names.TheConstants.{SEQUENCE_COMPONENT}
-use Rattle.asn_modules.proofs.Equations.{behind}
-use Rattle.asn_modules.specs.Parts.{all_some}
+use Rattle.asn_literals.proofs.Equations.{behind}
+use Rattle.asn_literals.specs.Parts.{all_some}
 use Rattle.asn_modules.specs.Types.{component_of}
 use Rattle.asn_modules.proofs.types.+reading.Given as goal
 
