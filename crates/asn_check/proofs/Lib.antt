@@ -1,4 +1,3 @@
 pub mod Stays
 pub mod Warned
 pub mod OnlyOrder
-pub mod Needed

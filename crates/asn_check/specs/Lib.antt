@@ -1,5 +1,4 @@
 pub mod Warnings
-pub mod Needed
 pub mod Linked
 pub mod Listing
 pub mod KeptMeaning
