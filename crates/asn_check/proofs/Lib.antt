@@ -1,3 +1,4 @@
 pub mod Stays
 pub mod Warned
 pub mod OnlyOrder
+pub mod Needed

@@ -1,4 +1,5 @@
 pub mod Warnings
+pub mod Needed
 pub mod Linked
 pub mod Listing
 pub mod KeptMeaning

@@ -11,7 +11,9 @@ mod linked;
 mod types;
 mod warnings;
 
-pub use laws::{linked_keeps_meaning, one_list_of_warnings, warnings_are_due, warnings_stay};
+pub use laws::{
+    due_are_warned, linked_keeps_meaning, one_list_of_warnings, warnings_are_due, warnings_stay,
+};
 pub use lines::listing;
 pub use link::link_reading;
 pub use linked::Linked;

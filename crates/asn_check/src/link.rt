@@ -1,6 +1,7 @@
 //! Linking a reading.
 
 ghost use Rattle.asn_check.specs.KeptMeaning.{KeepsMeaning};
+ghost use Rattle.asn_check.specs.Needed.{WarnsOfFaults};
 ghost use Rattle.asn_check.specs.Warnings.{AreWarnings, said_by, warnings_of};
 ghost use Rattle.asn_names.specs.Definitions.{definitions_of, IsStanding, name_of};
 ghost use Rattle.asn_names.specs.Given.{given_definitions};
@@ -8,7 +9,7 @@ ghost use Rattle.asn_names.specs.Linked.{AreLinked};
 ghost use Rattle.std.specs.Prelude.{◌≡◌, IfOk, map};
 
 use crate::given::give_reading;
-use crate::laws::{linked_keeps_meaning, warnings_are_due, warnings_stay};
+use crate::laws::{due_are_warned, linked_keeps_meaning, warnings_are_due, warnings_stay};
 use crate::linked::Linked;
 use crate::warnings::warnings_on_all;
 use asn_copy_trees::{copy_module_reference, copy_toplevel_definition};
@@ -59,17 +60,20 @@ fn link_parts(alloc: Global, reading: &Reading) -> Mem<Linked>
 }
 
 /// The linked answer of a reading. In this part of the notation linking changes no type: each definition is given as
-/// read, with its numbers and its module's tagging environment.
+/// read, with its numbers and its module's tagging environment. It warns of names without a definition of a type, and of
+/// names that several definitions have; where it judges all definitions whole, these are all the faults that stand.
 pub fn link_reading(alloc: Global, reading: &Reading) -> Mem<Linked>
     ensures modules { IfOk result (λ linked. linked.modules ≡ map (λ m. m.0) reading.now) }
     ensures definitions { IfOk result (λ linked. AreLinked reading.now linked.definitions) }
     ensures warnings { IfOk result (λ linked. AreWarnings (definitions_of reading.now) (map said_by linked.warnings)) }
+    ensures faults { IfOk result (λ linked. WarnsOfFaults (definitions_of reading.now) (map said_by linked.warnings)) }
     ensures meaning { IfOk result (λ linked. KeepsMeaning reading.now linked.definitions) }
 {
     standing_are_linked();
     linked_keeps_meaning();
     warnings_stay();
     warnings_are_due();
+    due_are_warned();
     let linked = link_parts(alloc, reading)?;
     Ok(linked)
 }
