@@ -2,6 +2,7 @@
 use Rattle.std.specs.Prelude.{◌≡◌, List, map}
 use Rattle.asn_check.specs.declared.linked.Linked.{Linked}
 use Rattle.asn_check.specs.KeptMeaning.{KeepsMeaning}
+use Rattle.asn_check.specs.Needed.{WarnsOfFaults}
 use Rattle.asn_check.specs.Warnings.{AreWarnings, said_by}
 use Rattle.asn_names.specs.Definitions.{Module, definitions_of}
 use Rattle.asn_names.specs.Linked.{AreLinked}
@@ -13,5 +14,7 @@ pub record IsLinkedOf (reading : List Module) (linked : Linked) : Type 0 where
   pub definitions : AreLinked reading linked.definitions
   -- a warning for each fault, and for each name that is defined more than once; no other
   pub warnings : AreWarnings (definitions_of reading) (map said_by linked.warnings)
+  -- where linking judges all definitions whole, the warnings are the faults that stand, and Duplicate
+  pub faults : WarnsOfFaults (definitions_of reading) (map said_by linked.warnings)
   -- each clean definition accepts what it accepts in the reading
   pub meaning : KeepsMeaning reading linked.definitions

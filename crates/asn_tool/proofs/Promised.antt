@@ -253,6 +253,7 @@ module _ (words : List (String Global)) (source source' sink sink' : StreamState
         headers = h.links.modules;
         definitions = h.links.definitions;
         warned = h.links.warnings;
+        faults = h.links.faults;
         means = means taken reading linked h.reads h.links;
         status = is ∙ h.status_is;
       }

@@ -3,6 +3,7 @@ use Rattle.std.specs.Prelude.{◌≡◌, ◌⊎◌, ℕ, List, Some, None, map}
 use Rattle.asn_check.specs.declared.linked.Linked.{Linked}
 use Rattle.asn_check.specs.Listing.{listing_of}
 use Rattle.asn_check.specs.KeptMeaning.{AcceptsAlike}
+use Rattle.asn_check.specs.Needed.{WarnsOfFaults}
 use Rattle.asn_check.specs.Warnings.{AreWarnings, said_by}
 use Rattle.asn_meaning.specs.Definitions.{type_named}
 use Rattle.asn_meaning.specs.Plain.{IsPlain}
@@ -50,6 +51,8 @@ pub record Prints (depth : ℕ) (text : List ℕ) (sink sink' : StreamState) (en
   -- each definition is warned exactly for its faults, and each name that is defined more than once for that, in byte
   -- order of names
   pub warned : AreWarnings (definitions_of reading) (map said_by linked.warnings)
+  -- where linking judges all definitions whole, the warnings are the faults that stand, and Duplicate
+  pub faults : WarnsOfFaults (definitions_of reading) (map said_by linked.warnings)
   pub means : MeansWhatIsRead reading linked.definitions
   pub status : ended.status ≡ status_of linked
 
