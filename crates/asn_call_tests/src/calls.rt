@@ -62,4 +62,3 @@ fn character_sets(rt: HostRuntime) -> Result<(), Fail> {
     }
     Ok(())
 }
-

@@ -1,6 +1,7 @@
 //! Calls on constraints: the least integer type, and the parts of a range and of a single value.
 
 use crate::parts::containing_null;
+use crate::rows::first_wrong;
 use asn_calls::{ConstraintCalls, IntegerCalls};
 use asn_memory::{List, Mem};
 use asn_tree::{
@@ -55,11 +56,16 @@ fn integer_types_of_constraints(rt: HostRuntime) {
     ] {
         assert!(rt; holds_in(range(min, Some(max), false), ty), "{min} {max}");
     }
-    assert!(rt; holds_in(range(0, Some(1), true), IntegerType::Unbounded));
-    assert!(rt; holds_in(range(0, None, false), IntegerType::Unbounded));
-    assert!(rt; holds_in(single(ASN1Value::Integer(300)), IntegerType::Uint16));
-    assert!(rt; holds_in(single(ASN1Value::Null), IntegerType::Unbounded));
-    assert!(rt; holds_in(containing_null(), IntegerType::Unbounded));
+    assert_eq!(rt;
+        first_wrong(&[
+            Ok(holds_in(range(0, Some(1), true), IntegerType::Unbounded)),
+            Ok(holds_in(range(0, None, false), IntegerType::Unbounded)),
+            Ok(holds_in(single(ASN1Value::Integer(300)), IntegerType::Uint16)),
+            Ok(holds_in(single(ASN1Value::Null), IntegerType::Unbounded)),
+            Ok(holds_in(containing_null(), IntegerType::Unbounded)),
+        ]),
+        None
+    );
 }
 
 // The INTEGER with both constraints.
@@ -118,10 +124,15 @@ fn is_no_single(constraint: Constraint) -> bool {
 
 #[test]
 fn parts_of_constraints(rt: HostRuntime) {
-    assert!(rt; is_range(range(1, Some(5), false), 1, 5));
-    assert!(rt; is_no_range(single(ASN1Value::Integer(1))));
-    assert!(rt; is_no_range(containing_null()));
-    assert!(rt; is_single(single(ASN1Value::Integer(1)), 1));
-    assert!(rt; is_no_single(range(1, Some(5), false)));
-    assert!(rt; is_no_single(containing_null()));
+    assert_eq!(rt;
+        first_wrong(&[
+            Ok(is_range(range(1, Some(5), false), 1, 5)),
+            Ok(is_no_range(single(ASN1Value::Integer(1)))),
+            Ok(is_no_range(containing_null())),
+            Ok(is_single(single(ASN1Value::Integer(1)), 1)),
+            Ok(is_no_single(range(1, Some(5), false))),
+            Ok(is_no_single(containing_null())),
+        ]),
+        None
+    );
 }

@@ -12,6 +12,8 @@ mod definition_calls;
 #[cfg(test)]
 mod parts;
 #[cfg(test)]
+mod rows;
+#[cfg(test)]
 mod syntax_calls;
 #[cfg(test)]
 mod type_calls;

@@ -1,5 +1,6 @@
 //! Calls on the own syntax of classes, on the objects that are written in it, and on the names and types of members.
 
+use crate::rows::first_wrong;
 use asn_calls::{
     ASN1TypeCalls, InformationObjectFieldCalls, InformationObjectSyntaxCalls, IterNameTypes,
     NameTypes, SyntaxApplicationCalls, SyntaxTokenCalls,
@@ -214,10 +215,15 @@ fn places_out_of_range(rt: HostRuntime) -> Result<(), Fail> {
     let alloc = rt.alloc();
     let tokens = syntax(alloc)?.flatten(alloc)?;
     let item = name(alloc, "END")?;
-    assert!(rt; !fits_beyond(&item, tokens.as_slice(), 4));
-    assert!(rt; fits_beyond(&item, tokens.as_slice(), 8));
-    assert!(rt; fits_beyond(&item, tokens.as_slice(), 9));
-    assert!(rt; fits_beyond(&item, tokens.as_slice(), usize::MAX));
+    assert_eq!(rt;
+        first_wrong(&[
+            Ok(!fits_beyond(&item, tokens.as_slice(), 4)),
+            Ok(fits_beyond(&item, tokens.as_slice(), 8)),
+            Ok(fits_beyond(&item, tokens.as_slice(), 9)),
+            Ok(fits_beyond(&item, tokens.as_slice(), usize::MAX)),
+        ]),
+        None
+    );
     Ok(())
 }
 
@@ -260,10 +266,20 @@ fn items(rt: HostRuntime) -> Result<(), Fail> {
     let alloc = rt.alloc();
     let tokens = syntax(alloc)?.flatten(alloc)?;
     let tokens = tokens.as_slice();
-    assert_eq!(rt; of_comma(tokens), (false, false, true, false));
-    assert_eq!(rt; of_value(tokens), (false, true, false, false));
-    assert_eq!(rt; of_type(tokens), (false, false, false, true));
-    assert_eq!(rt; of_set(alloc, tokens), (false, false, false, true));
+    assert_eq!(rt;
+        (
+            of_comma(tokens),
+            of_value(tokens),
+            of_type(tokens),
+            of_set(alloc, tokens)
+        ),
+        (
+            (false, false, true, false),
+            (false, true, false, false),
+            (false, false, false, true),
+            (false, false, false, true)
+        )
+    );
     Ok(())
 }
 
@@ -301,9 +317,14 @@ fn is_set_field(alloc: Global) -> Mem<bool> {
 #[test]
 fn given_fields(rt: HostRuntime) -> Result<(), Fail> {
     let alloc = rt.alloc();
-    assert!(rt; is_type_field(alloc)?);
-    assert!(rt; is_value_field(alloc)?);
-    assert!(rt; is_set_field(alloc)?);
+    assert_eq!(rt;
+        first_wrong(&[
+            is_type_field(alloc),
+            is_value_field(alloc),
+            is_set_field(alloc),
+        ]),
+        None
+    );
     Ok(())
 }
 

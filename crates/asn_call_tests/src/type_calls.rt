@@ -1,6 +1,7 @@
 //! Calls on types: what they are called, which are built in, and their constraints.
 
 use crate::parts::containing_null;
+use crate::rows::first_wrong;
 use asn_calls::{
     ASN1TypeCalls, Constrainable, InformationObjectFieldReferenceCalls, ObjectFieldIdentifierCalls,
 };
@@ -14,9 +15,16 @@ use asn_tree::{
 use std::alloc::Global;
 use std::test::Fail;
 
+// Each call stands in a function of its own, so that no proof goes through its definitions and through drops of trees.
+
+fn name_of(alloc: Global, ty: &ASN1Type) -> Mem<Text> {
+    ty.as_str(alloc)
+}
+
 // Whether the type is called so.
 fn is_called(alloc: Global, ty: Mem<ASN1Type>, name: &str) -> Mem<bool> {
-    let name_of_type = ty?.as_str(alloc)?;
+    let ty = ty?;
+    let name_of_type = name_of(alloc, &ty)?;
     Ok(name_of_type.as_str() == name)
 }
 
@@ -82,19 +90,22 @@ fn reference_type(alloc: Global, name: &str) -> Mem<ASN1Type> {
 #[test]
 fn names_of_types(rt: HostRuntime) -> Result<(), Fail> {
     let alloc = rt.alloc();
-    assert!(rt; is_called(alloc, Ok(ASN1Type::Null), "NULL")?);
-    assert!(rt; is_called(alloc, Ok(boolean(alloc)), "BOOLEAN")?);
-    assert!(rt; is_called(alloc, Ok(ASN1Type::EmbeddedPdv), "EMBEDDED PDV")?);
-    assert!(rt;
-        is_called(
-            alloc,
-            Ok(string(alloc, CharacterStringType::BMPString)),
-            "BMPString"
-        )?
+    assert_eq!(rt;
+        first_wrong(&[
+            is_called(alloc, Ok(ASN1Type::Null), "NULL"),
+            is_called(alloc, Ok(boolean(alloc)), "BOOLEAN"),
+            is_called(alloc, Ok(ASN1Type::EmbeddedPdv), "EMBEDDED PDV"),
+            is_called(
+                alloc,
+                Ok(string(alloc, CharacterStringType::BMPString)),
+                "BMPString"
+            ),
+            is_called(alloc, reference_type(alloc, "Foo"), "Foo"),
+            is_called(alloc, selection(alloc), "i < C"),
+            is_called(alloc, field_type(alloc), "ObjectField$ATTR$&a$&B"),
+        ]),
+        None
     );
-    assert!(rt; is_called(alloc, reference_type(alloc, "Foo"), "Foo")?);
-    assert!(rt; is_called(alloc, selection(alloc), "i < C")?);
-    assert!(rt; is_called(alloc, field_type(alloc), "ObjectField$ATTR$&a$&B")?);
     Ok(())
 }
 
@@ -114,18 +125,23 @@ fn is_first_called(field: &InformationObjectFieldReference, name: &str) -> bool 
 fn paths_of_fields(rt: HostRuntime) -> Result<(), Fail> {
     let alloc = rt.alloc();
     let field = field(alloc)?;
-    assert!(rt; is_first_called(&field, "&a"));
-    assert!(rt; is_path_written(alloc, &field)?);
+    assert_eq!(rt;
+        first_wrong(&[
+            Ok(is_first_called(&field, "&a")),
+            is_path_written(alloc, &field),
+        ]),
+        None
+    );
     Ok(())
+}
+
+fn type_of(alloc: Global, parent: Option<&str>, name: &str) -> Mem<ASN1Type> {
+    ASN1Type::builtin_or_elsewhere(alloc, parent, name, None)
 }
 
 // What `builtin_or_elsewhere` gives, told by its words.
 fn is_named_as(alloc: Global, parent: Option<&str>, name: &str, words: &str) -> Mem<bool> {
-    is_called(
-        alloc,
-        ASN1Type::builtin_or_elsewhere(alloc, parent, name, None),
-        words,
-    )
+    is_called(alloc, type_of(alloc, parent, name), words)
 }
 
 fn is_null(ty: Mem<ASN1Type>) -> Mem<bool> {
@@ -151,7 +167,7 @@ fn is_reference(ty: Mem<ASN1Type>, parent: Option<&str>) -> Mem<bool> {
 #[test]
 fn names_that_are_types(rt: HostRuntime) -> Result<(), Fail> {
     let alloc = rt.alloc();
-    assert!(rt; is_null(ASN1Type::builtin_or_elsewhere(alloc, None, "NULL", None))?);
+    assert!(rt; is_null(type_of(alloc, None, "NULL"))?);
     for word in [
         "BOOLEAN",
         "REAL",
@@ -166,15 +182,18 @@ fn names_that_are_types(rt: HostRuntime) -> Result<(), Fail> {
     ] {
         assert!(rt; is_named_as(alloc, None, word, word)?, "{word}");
     }
-    let string = ASN1Type::builtin_or_elsewhere(alloc, None, "NumericString", None);
+    let string = type_of(alloc, None, "NumericString");
     assert!(rt; is_string(string, CharacterStringType::NumericString)?);
-    let with_parent = ASN1Type::builtin_or_elsewhere(alloc, Some("o"), "NULL", None);
-    assert!(rt; is_reference(with_parent, Some("o"))?);
-    assert!(rt;
-        is_reference(
-            ASN1Type::builtin_or_elsewhere(alloc, None, "TIME", None),
-            None
-        )?
+    let with_parent = type_of(alloc, Some("o"), "NULL");
+    assert_eq!(rt;
+        first_wrong(&[
+            is_reference(with_parent, Some("o")),
+            is_reference(
+                type_of(alloc, None, "TIME"),
+                None
+            ),
+        ]),
+        None
     );
     Ok(())
 }
@@ -182,49 +201,75 @@ fn names_that_are_types(rt: HostRuntime) -> Result<(), Fail> {
 // Whether it is a built-in type, and whether its values need no memory.
 fn is_told(ty: Mem<ASN1Type>, builtin: bool, constant: bool) -> Mem<bool> {
     let ty = ty?;
-    Ok(ty.is_builtin_type() == builtin && ty.is_const_type() == constant)
+    Ok(told(&ty) == (builtin, constant))
+}
+
+fn told(ty: &ASN1Type) -> (bool, bool) {
+    (ty.is_builtin_type(), ty.is_const_type())
 }
 
 #[test]
 fn kinds_of_types(rt: HostRuntime) -> Result<(), Fail> {
     let alloc = rt.alloc();
-    assert!(rt; is_told(Ok(ASN1Type::Null), true, true)?);
-    assert!(rt; is_told(Ok(boolean(alloc)), true, true)?);
-    assert!(rt; is_told(Ok(ASN1Type::External), true, false)?);
-    assert!(rt;
-        is_told(
-            Ok(string(alloc, CharacterStringType::UTF8String)),
-            true,
-            false
-        )?
+    assert_eq!(rt;
+        first_wrong(&[
+            is_told(Ok(ASN1Type::Null), true, true),
+            is_told(Ok(boolean(alloc)), true, true),
+            is_told(Ok(ASN1Type::External), true, false),
+            is_told(
+                Ok(string(alloc, CharacterStringType::UTF8String)),
+                true,
+                false
+            ),
+            is_told(reference_type(alloc, "Foo"), false, false),
+            is_told(selection(alloc), false, false),
+            is_told(field_type(alloc), false, false),
+        ]),
+        None
     );
-    assert!(rt; is_told(reference_type(alloc, "Foo"), false, false)?);
-    assert!(rt; is_told(selection(alloc), false, false)?);
-    assert!(rt; is_told(field_type(alloc), false, false)?);
     Ok(())
 }
 
 // Whether the type has no constraints, and one once it is given one; or no place for any.
 fn takes_one(ty: Mem<ASN1Type>, has_place: bool) -> Mem<bool> {
     let mut ty = ty?;
-    let before = ty.constraints().map(|constraints| constraints.len());
-    if let Some(constraints) = ty.constraints_mut() {
-        constraints.add(containing_null())?;
+    let before = count_of(&ty);
+    constrain(&mut ty)?;
+    let after = count_of(&ty);
+    Ok((before, after) == (has_place.then_some(0), has_place.then_some(1)))
+}
+
+// How many constraints the type has; None where it has no place for any.
+fn count_of(ty: &ASN1Type) -> Option<usize> {
+    match ty.constraints() {
+        Some(constraints) => Some(constraints.len()),
+        None => None,
     }
-    let after = ty.constraints().map(|constraints| constraints.len());
-    Ok(before == has_place.then_some(0) && after == has_place.then_some(1))
+}
+
+// Puts one constraint behind those of the type, where it has a place for any.
+fn constrain(ty: &mut ASN1Type) -> Mem<()> {
+    match ty.constraints_mut() {
+        Some(constraints) => constraints.add(containing_null()),
+        None => Ok(()),
+    }
 }
 
 #[test]
 fn constraints_of_types(rt: HostRuntime) -> Result<(), Fail> {
     let alloc = rt.alloc();
-    assert!(rt; takes_one(Ok(ASN1Type::Null), false)?);
-    assert!(rt; takes_one(Ok(ASN1Type::EmbeddedPdv), false)?);
-    assert!(rt; takes_one(Ok(ASN1Type::External), false)?);
-    assert!(rt; takes_one(selection(alloc), false)?);
-    assert!(rt; takes_one(Ok(boolean(alloc)), true)?);
-    assert!(rt; takes_one(reference_type(alloc, "Foo"), true)?);
-    assert!(rt; takes_one(field_type(alloc), true)?);
+    assert_eq!(rt;
+        first_wrong(&[
+            takes_one(Ok(ASN1Type::Null), false),
+            takes_one(Ok(ASN1Type::EmbeddedPdv), false),
+            takes_one(Ok(ASN1Type::External), false),
+            takes_one(selection(alloc), false),
+            takes_one(Ok(boolean(alloc)), true),
+            takes_one(reference_type(alloc, "Foo"), true),
+            takes_one(field_type(alloc), true),
+        ]),
+        None
+    );
     let oid = ASN1Type::ObjectIdentifier(ObjectIdentifier {
         constraints: List::new(alloc),
     });
@@ -301,39 +346,34 @@ fn bit_string(alloc: Global) -> BitString {
 #[test]
 fn constrained_types(rt: HostRuntime) -> Result<(), Fail> {
     let alloc = rt.alloc();
-    assert!(rt;
-        is_constrained(Ok(Boolean {
-            constraints: List::new(alloc)
-        }))?
+    assert_eq!(rt;
+        first_wrong(&[
+            is_constrained(Ok(Boolean {
+                constraints: List::new(alloc)
+            })),
+            is_constrained(Ok(integer(alloc))),
+            is_constrained(Ok(Real {
+                constraints: List::new(alloc)
+            })),
+            is_constrained(Ok(Time {
+                constraints: List::new(alloc)
+            })),
+            is_constrained(Ok(bit_string(alloc))),
+            is_constrained(Ok(OctetString {
+                constraints: List::new(alloc)
+            })),
+            is_constrained(Ok(CharacterString {
+                constraints: List::new(alloc),
+                ty: CharacterStringType::IA5String
+            })),
+            is_constrained(Ok(sequence(alloc))),
+            is_constrained(list_of_nulls(alloc)),
+            is_constrained(Ok(choice(alloc))),
+            is_constrained(Ok(enumerated(alloc))),
+            is_constrained(reference(alloc, "Foo")),
+            is_constrained(field(alloc)),
+        ]),
+        None
     );
-    assert!(rt; is_constrained(Ok(integer(alloc)))?);
-    assert!(rt;
-        is_constrained(Ok(Real {
-            constraints: List::new(alloc)
-        }))?
-    );
-    assert!(rt;
-        is_constrained(Ok(Time {
-            constraints: List::new(alloc)
-        }))?
-    );
-    assert!(rt; is_constrained(Ok(bit_string(alloc)))?);
-    assert!(rt;
-        is_constrained(Ok(OctetString {
-            constraints: List::new(alloc)
-        }))?
-    );
-    assert!(rt;
-        is_constrained(Ok(CharacterString {
-            constraints: List::new(alloc),
-            ty: CharacterStringType::IA5String
-        }))?
-    );
-    assert!(rt; is_constrained(Ok(sequence(alloc)))?);
-    assert!(rt; is_constrained(list_of_nulls(alloc))?);
-    assert!(rt; is_constrained(Ok(choice(alloc)))?);
-    assert!(rt; is_constrained(Ok(enumerated(alloc)))?);
-    assert!(rt; is_constrained(reference(alloc, "Foo"))?);
-    assert!(rt; is_constrained(field(alloc))?);
     Ok(())
 }

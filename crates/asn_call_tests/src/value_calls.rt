@@ -1,5 +1,6 @@
 //! Calls on values, definitions and headers, each once.
 
+use crate::rows::first_wrong;
 use asn_calls::{
     ASN1ValueCalls, CharacterStringTypeCalls, ModuleReferenceCalls, StructLikeFieldValueCalls,
     ToplevelDefinitionCalls, ToplevelInformationDefinitionCalls, ToplevelTypeDefinitionCalls,
@@ -82,26 +83,30 @@ const REFUSED: (Told, Told) = (
 #[test]
 fn of_numbers(rt: HostRuntime) {
     let alloc = rt.alloc();
-    assert_eq!(rt;
-        compared_numbers(alloc, -7, 3),
-        (Told::Number(-7), Told::Number(3))
-    );
-    assert_eq!(rt;
-        compared_numbers(alloc, 3, -7),
-        (Told::Number(-7), Told::Number(3))
-    );
-    assert_eq!(rt;
-        compared_numbers(alloc, 5, 5),
-        (Told::Number(5), Told::Number(5))
-    );
-    let number = ASN1Value::Integer(5);
-    assert_eq!(rt; compared(alloc, &number, &ASN1Value::Null, None), REFUSED);
-    assert_eq!(rt; number.unwrap_as_integer().ok(), Some(5));
-    let refused = ASN1Value::Boolean(true).unwrap_as_integer();
-    assert_eq!(rt;
-        refused.err().map(|fault| fault.kind),
-        Some(GrammarErrorType::UnpackingError)
-    );
+    for (left, right, lesser, greater) in [(-7, 3, -7, 3), (3, -7, -7, 3), (5, 5, 5, 5)] {
+        assert_eq!(rt;
+            compared_numbers(alloc, left, right),
+            (Told::Number(lesser), Told::Number(greater)),
+            "of {left} and {right}"
+        );
+    }
+}
+
+// The number that a value is, or the kind of the refusal.
+fn unwrapped(value: ASN1Value) -> Result<i128, GrammarErrorType> {
+    match value.unwrap_as_integer() {
+        Ok(number) => Ok(number),
+        Err(refusal) => Err(refusal.kind),
+    }
+}
+
+#[test]
+fn of_what_is_no_number(rt: HostRuntime) {
+    let compared = compared(rt.alloc(), &ASN1Value::Integer(5), &ASN1Value::Null, None);
+    assert_eq!(rt; compared, REFUSED);
+    assert_eq!(rt; unwrapped(ASN1Value::Integer(5)), Ok(5));
+    let refused = unwrapped(ASN1Value::Boolean(true));
+    assert_eq!(rt; refused, Err(GrammarErrorType::UnpackingError));
 }
 
 #[test]
@@ -109,13 +114,22 @@ fn of_texts(rt: HostRuntime) -> Result<(), Fail> {
     let alloc = rt.alloc();
     let told = Ok((Told::Text(b'B'), Told::Text(b'a')));
     let set = CharacterStringType::PrintableString.character_set(alloc)?;
-    assert_eq!(rt; compared_texts(alloc, "B", "a", Some(&set)), told);
-    assert_eq!(rt; compared_texts(alloc, "a", "B", Some(&set)), told);
-    // A character that the set has not, two characters, and no set.
-    assert_eq!(rt; compared_texts(alloc, "a", "_", Some(&set)), Ok(REFUSED));
-    assert_eq!(rt; compared_texts(alloc, "a", "aa", Some(&set)), Ok(REFUSED));
-    assert_eq!(rt; compared_texts(alloc, "a", "B", None), Ok(REFUSED));
+    // The last two: a character that the set has not, and two characters.
+    for (left, right, wanted) in [
+        ("B", "a", told),
+        ("a", "B", told),
+        ("a", "_", Ok(REFUSED)),
+        ("a", "aa", Ok(REFUSED)),
+    ] {
+        let found = compared_texts(alloc, left, right, Some(&set));
+        assert_eq!(rt; found, wanted, "of {left} and {right}");
+    }
     Ok(())
+}
+
+#[test]
+fn of_texts_without_a_set(rt: HostRuntime) {
+    assert_eq!(rt; compared_texts(rt.alloc(), "a", "B", None), Ok(REFUSED));
 }
 
 // The least of a character's numbers counts.
@@ -231,9 +245,14 @@ fn is_of_items(definition: &ToplevelDefinition) -> bool {
 #[test]
 fn of_definitions(rt: HostRuntime) -> Result<(), Fail> {
     let colours = colours(rt.alloc())?;
-    assert!(rt; are_numbers_of_colours(&colours));
-    assert!(rt; are_names_of_colours(&colours));
-    assert!(rt; is_of_items(&colours));
+    assert_eq!(rt;
+        first_wrong(&[
+            Ok(are_numbers_of_colours(&colours)),
+            Ok(are_names_of_colours(&colours)),
+            Ok(is_of_items(&colours)),
+        ]),
+        None
+    );
     Ok(())
 }
 
@@ -275,8 +294,10 @@ fn defines_a_class(definition: &ToplevelDefinition) -> bool {
 #[test]
 fn of_classes(rt: HostRuntime) -> Result<(), Fail> {
     let class = class(rt.alloc())?;
-    assert!(rt; is_empty_class(&class));
-    assert!(rt; defines_a_class(&class));
+    assert_eq!(rt;
+        first_wrong(&[Ok(is_empty_class(&class)), Ok(defines_a_class(&class)),]),
+        None
+    );
     Ok(())
 }
 

@@ -11,4 +11,6 @@ mod constructors;
 #[cfg(test)]
 mod copies;
 #[cfg(test)]
+mod rows;
+#[cfg(test)]
 mod trees;

@@ -31,8 +31,7 @@ pub fn integer_in(ty: &ASN1Type) -> Option<&Integer> {
 }
 
 /// The ends of a range of numbers, both closed, without an extension marker.
-pub fn ends_of(element: &SubtypeElement) -> Option<(i128, i128)>
-{
+pub fn ends_of(element: &SubtypeElement) -> Option<(i128, i128)> {
     match element {
         SubtypeElement::ValueRange {
             min: Some(ASN1Value::Integer(min)),

@@ -67,7 +67,12 @@ fn is_tried(alloc: Global, text: &str, number: u8) -> bool {
 fn bits_read(rt: HostRuntime) -> Result<(), Fail> {
     let text = bits(rt.alloc())?;
     let text = text.as_str();
-    assert!(rt; is_read(bit_string_value(rt.alloc(), Input::from(text), 512), text.len()));
+    assert!(rt;
+        is_read(
+            bit_string_value(rt.alloc(), Input::from(text), 512),
+            text.len()
+        )
+    );
     Ok(())
 }
 
@@ -82,7 +87,12 @@ fn bits_tried(rt: HostRuntime) -> Result<(), Fail> {
 fn octets_read(rt: HostRuntime) -> Result<(), Fail> {
     let text = octets(rt.alloc())?;
     let text = text.as_str();
-    assert!(rt; is_read(bit_string_value(rt.alloc(), Input::from(text), 512), text.len()));
+    assert!(rt;
+        is_read(
+            bit_string_value(rt.alloc(), Input::from(text), 512),
+            text.len()
+        )
+    );
     Ok(())
 }
 
@@ -97,7 +107,12 @@ fn octets_tried(rt: HostRuntime) -> Result<(), Fail> {
 fn characters_read(rt: HostRuntime) -> Result<(), Fail> {
     let text = characters(rt.alloc())?;
     let text = text.as_str();
-    assert!(rt; is_read(character_string_value(rt.alloc(), Input::from(text), 512), text.len()));
+    assert!(rt;
+        is_read(
+            character_string_value(rt.alloc(), Input::from(text), 512),
+            text.len()
+        )
+    );
     Ok(())
 }
 
@@ -112,7 +127,12 @@ fn characters_tried(rt: HostRuntime) -> Result<(), Fail> {
 fn arcs_read(rt: HostRuntime) -> Result<(), Fail> {
     let text = arcs(rt.alloc())?;
     let text = text.as_str();
-    assert!(rt; is_read(object_identifier_value(rt.alloc(), Input::from(text), 512), text.len()));
+    assert!(rt;
+        is_read(
+            object_identifier_value(rt.alloc(), Input::from(text), 512),
+            text.len()
+        )
+    );
     Ok(())
 }
 
@@ -127,7 +147,12 @@ fn arcs_tried(rt: HostRuntime) -> Result<(), Fail> {
 fn members_read(rt: HostRuntime) -> Result<(), Fail> {
     let text = members(rt.alloc())?;
     let text = text.as_str();
-    assert!(rt; is_read(sequence_value(rt.alloc(), Input::from(text), 512), text.len()));
+    assert!(rt;
+        is_read(
+            sequence_value(rt.alloc(), Input::from(text), 512),
+            text.len()
+        )
+    );
     Ok(())
 }
 
@@ -142,7 +167,12 @@ fn members_tried(rt: HostRuntime) -> Result<(), Fail> {
 fn items_read(rt: HostRuntime) -> Result<(), Fail> {
     let text = items(rt.alloc())?;
     let text = text.as_str();
-    assert!(rt; is_read(sequence_value(rt.alloc(), Input::from(text), 512), text.len()));
+    assert!(rt;
+        is_read(
+            sequence_value(rt.alloc(), Input::from(text), 512),
+            text.len()
+        )
+    );
     Ok(())
 }
 

@@ -1,6 +1,7 @@
 //! Constraints.
 
 use crate::comparing::{is_made, list};
+use crate::rows::first_wrong;
 use crate::trees::{
     composite, constraint, constraint_list, content, element, element_set, inner, object_set,
     operation, pattern, range, relational, single_element, table, user_defined,
@@ -77,12 +78,17 @@ fn of_components(alloc: Global) -> Mem<SubtypeElement> {
 #[test]
 fn of_sets(rt: HostRuntime) -> Result<(), Fail> {
     let alloc = rt.alloc();
-    assert!(rt; is_made(Ok(element()), Ok(single_value()))?);
-    assert!(rt; is_made(Ok(element_set()), Ok(root()))?);
-    assert!(rt; is_made(operation(alloc), united(alloc))?);
-    assert!(rt; is_made(SubtypeElement::size(alloc, element_set()), sized(alloc))?);
-    assert!(rt; is_made(of_components(alloc), with_components(alloc))?);
-    assert!(rt; is_made(composite(alloc), joined(alloc))?);
+    assert_eq!(rt;
+        first_wrong(&[
+            is_made(Ok(element()), Ok(single_value())),
+            is_made(Ok(element_set()), Ok(root())),
+            is_made(operation(alloc), united(alloc)),
+            is_made(SubtypeElement::size(alloc, element_set()), sized(alloc)),
+            is_made(of_components(alloc), with_components(alloc)),
+            is_made(composite(alloc), joined(alloc)),
+        ]),
+        None
+    );
     Ok(())
 }
 
@@ -115,10 +121,15 @@ fn extensible_single(alloc: Global) -> Mem<ValueConstraint> {
 #[test]
 fn of_ranges(rt: HostRuntime) -> Result<(), Fail> {
     let alloc = rt.alloc();
-    assert!(rt; is_made(range(alloc), within(1, 8, false))?);
-    assert!(rt; is_made(extensible_range(alloc), within(1, 8, true))?);
-    assert!(rt; is_made(single(alloc), within(4, 4, false))?);
-    assert!(rt; is_made(extensible_single(alloc), within(4, 4, true))?);
+    assert_eq!(rt;
+        first_wrong(&[
+            is_made(range(alloc), within(1, 8, false)),
+            is_made(extensible_range(alloc), within(1, 8, true)),
+            is_made(single(alloc), within(4, 4, false)),
+            is_made(extensible_single(alloc), within(4, 4, true)),
+        ]),
+        None
+    );
     Ok(())
 }
 
@@ -159,10 +170,15 @@ fn encoded() -> ContentConstraint {
 #[test]
 fn of_others(rt: HostRuntime) -> Result<(), Fail> {
     let alloc = rt.alloc();
-    assert!(rt; is_made(relational(alloc), linked_name(alloc))?);
-    assert!(rt; is_made(table(alloc), linked_set(alloc))?);
-    assert!(rt; is_made(pattern(alloc), starred(alloc))?);
-    assert!(rt; is_made(user_defined(alloc), told(alloc))?);
+    assert_eq!(rt;
+        first_wrong(&[
+            is_made(relational(alloc), linked_name(alloc)),
+            is_made(table(alloc), linked_set(alloc)),
+            is_made(pattern(alloc), starred(alloc)),
+            is_made(user_defined(alloc), told(alloc)),
+        ]),
+        None
+    );
     Ok(())
 }
 
@@ -176,8 +192,13 @@ fn encoded_by() -> Mem<ContentConstraint> {
 
 #[test]
 fn of_contents(rt: HostRuntime) -> Result<(), Fail> {
-    assert!(rt; is_made(Ok(ContentConstraint::from(ASN1Type::Null)), containing())?);
-    assert!(rt; is_made(Ok(ContentConstraint::from(ASN1Value::Null)), encoded_by())?);
-    assert!(rt; is_made(Ok(content()), Ok(encoded()))?);
+    assert_eq!(rt;
+        first_wrong(&[
+            is_made(Ok(ContentConstraint::from(ASN1Type::Null)), containing()),
+            is_made(Ok(ContentConstraint::from(ASN1Value::Null)), encoded_by()),
+            is_made(Ok(content()), Ok(encoded())),
+        ]),
+        None
+    );
     Ok(())
 }

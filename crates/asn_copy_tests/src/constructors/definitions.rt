@@ -1,6 +1,7 @@
 //! Definitions and their parameters.
 
 use crate::comparing::{is_made, list};
+use crate::rows::first_wrong;
 use crate::trees::{
     argument, class, class_definition, object, object_definition, object_set,
     object_set_definition, parameterization, tag, type_definition, value_definition,
@@ -48,20 +49,21 @@ fn parameters(alloc: Global) -> Mem<Parameterization> {
 #[test]
 fn of_parameters(rt: HostRuntime) -> Result<(), Fail> {
     let alloc = rt.alloc();
-    assert!(rt;
-        is_made(
-            ParameterizationArgument::from_parts(alloc, "x"),
-            ungoverned(alloc)
-        )?
+    assert_eq!(rt;
+        first_wrong(&[
+            is_made(
+                ParameterizationArgument::from_parts(alloc, "x"),
+                ungoverned(alloc)
+            ),
+            is_made(argument(alloc), of_type(alloc)),
+            is_made(
+                ParameterizationArgument::from_class(alloc, "CODED", "x"),
+                of_class(alloc)
+            ),
+            is_made(parameterization(alloc), parameters(alloc)),
+        ]),
+        None
     );
-    assert!(rt; is_made(argument(alloc), of_type(alloc))?);
-    assert!(rt;
-        is_made(
-            ParameterizationArgument::from_class(alloc, "CODED", "x"),
-            of_class(alloc)
-        )?
-    );
-    assert!(rt; is_made(parameterization(alloc), parameters(alloc))?);
     Ok(())
 }
 
@@ -135,10 +137,15 @@ fn named_value(alloc: Global) -> Mem<ToplevelValueDefinition> {
 #[test]
 fn of_types_and_values(rt: HostRuntime) -> Result<(), Fail> {
     let alloc = rt.alloc();
-    assert!(rt; is_made(type_definition(alloc), full_type(alloc))?);
-    assert!(rt; is_made(named_type(alloc), bare_type(alloc))?);
-    assert!(rt; is_made(value_definition(alloc), full_value(alloc))?);
-    assert!(rt; is_made(named_value(alloc), bare_value(alloc))?);
+    assert_eq!(rt;
+        first_wrong(&[
+            is_made(type_definition(alloc), full_type(alloc)),
+            is_made(named_type(alloc), bare_type(alloc)),
+            is_made(value_definition(alloc), full_value(alloc)),
+            is_made(named_value(alloc), bare_value(alloc)),
+        ]),
+        None
+    );
     Ok(())
 }
 
@@ -214,9 +221,14 @@ fn named_object(alloc: Global) -> Mem<ToplevelInformationDefinition> {
 #[test]
 fn of_information(rt: HostRuntime) -> Result<(), Fail> {
     let alloc = rt.alloc();
-    assert!(rt; is_made(object_definition(alloc), full_object(alloc))?);
-    assert!(rt; is_made(object_set_definition(alloc), full_object_set(alloc))?);
-    assert!(rt; is_made(class_definition(alloc), full_class(alloc))?);
-    assert!(rt; is_made(named_object(alloc), bare_object(alloc))?);
+    assert_eq!(rt;
+        first_wrong(&[
+            is_made(object_definition(alloc), full_object(alloc)),
+            is_made(object_set_definition(alloc), full_object_set(alloc)),
+            is_made(class_definition(alloc), full_class(alloc)),
+            is_made(named_object(alloc), bare_object(alloc)),
+        ]),
+        None
+    );
     Ok(())
 }

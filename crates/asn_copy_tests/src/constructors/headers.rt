@@ -1,6 +1,7 @@
 //! Headers, identifiers, tags and faults.
 
 use crate::comparing::{is_made, list, pair};
+use crate::rows::first_wrong;
 use crate::trees::{
     arc, assigned, definitive, encoding, exports, global, header, identifier, import, tag, warning,
 };
@@ -44,16 +45,19 @@ fn oid_and_iri(alloc: Global) -> Mem<DefinitiveIdentifier> {
 #[test]
 fn of_identifiers(rt: HostRuntime) -> Result<(), Fail> {
     let alloc = rt.alloc();
-    assert!(rt; is_made(Ok(ObjectIdentifierArc::from(1)), numbered_arc())?);
-    assert!(rt;
-        is_made(
-            ObjectIdentifierArc::from_parts(alloc, "iso"),
-            named_arc(alloc, None)
-        )?
+    assert_eq!(rt;
+        first_wrong(&[
+            is_made(Ok(ObjectIdentifierArc::from(1)), numbered_arc()),
+            is_made(
+                ObjectIdentifierArc::from_parts(alloc, "iso"),
+                named_arc(alloc, None)
+            ),
+            is_made(arc(alloc), named_arc(alloc, Some(1))),
+            is_made(identifier(alloc), one_arc(alloc)),
+            is_made(definitive(alloc), oid_and_iri(alloc)),
+        ]),
+        None
     );
-    assert!(rt; is_made(arc(alloc), named_arc(alloc, Some(1)))?);
-    assert!(rt; is_made(identifier(alloc), one_arc(alloc))?);
-    assert!(rt; is_made(definitive(alloc), oid_and_iri(alloc))?);
     Ok(())
 }
 
@@ -108,11 +112,16 @@ fn full_header(alloc: Global) -> Mem<ModuleReference> {
 #[test]
 fn of_headers(rt: HostRuntime) -> Result<(), Fail> {
     let alloc = rt.alloc();
-    assert!(rt; is_made(global(alloc), named_module(alloc))?);
-    assert!(rt; is_made(import(alloc), imported(alloc))?);
-    assert!(rt; is_made(exports(alloc), exported(alloc))?);
-    assert!(rt; is_made(encoding(alloc), encoded(alloc))?);
-    assert!(rt; is_made(header(alloc), full_header(alloc))?);
+    assert_eq!(rt;
+        first_wrong(&[
+            is_made(global(alloc), named_module(alloc)),
+            is_made(import(alloc), imported(alloc)),
+            is_made(exports(alloc), exported(alloc)),
+            is_made(encoding(alloc), encoded(alloc)),
+            is_made(header(alloc), full_header(alloc)),
+        ]),
+        None
+    );
     Ok(())
 }
 

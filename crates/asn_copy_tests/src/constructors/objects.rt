@@ -1,6 +1,7 @@
 //! Classes, objects and object sets.
 
 use crate::comparing::{is_made, list, pair};
+use crate::rows::first_wrong;
 use crate::trees::{
     class, class_field, constraint_list, field_name, field_reference, fields, object_field,
     object_set, object_set_field, object_set_value, syntax, token, type_field,
@@ -50,11 +51,16 @@ fn full_class(alloc: Global) -> Mem<InformationObjectClass> {
 #[test]
 fn of_classes(rt: HostRuntime) -> Result<(), Fail> {
     let alloc = rt.alloc();
-    assert!(rt; is_made(token(alloc), word(alloc))?);
-    assert!(rt; is_made(SyntaxToken::from_parts(alloc, ","), Ok(SyntaxToken::Comma))?);
-    assert!(rt; is_made(from_field(alloc), place(alloc))?);
-    assert!(rt; is_made(class_field(alloc), full_field(alloc))?);
-    assert!(rt; is_made(class(alloc), full_class(alloc))?);
+    assert_eq!(rt;
+        first_wrong(&[
+            is_made(token(alloc), word(alloc)),
+            is_made(SyntaxToken::from_parts(alloc, ","), Ok(SyntaxToken::Comma)),
+            is_made(from_field(alloc), place(alloc)),
+            is_made(class_field(alloc), full_field(alloc)),
+            is_made(class(alloc), full_class(alloc)),
+        ]),
+        None
+    );
     Ok(())
 }
 
@@ -92,9 +98,14 @@ fn wanted_object_set(alloc: Global) -> Mem<InformationObjectField> {
 #[test]
 fn of_fields(rt: HostRuntime) -> Result<(), Fail> {
     let alloc = rt.alloc();
-    assert!(rt; is_made(object_field(alloc), value_field(alloc))?);
-    assert!(rt; is_made(of_type(alloc), wanted_type(alloc))?);
-    assert!(rt; is_made(of_object_set(alloc), wanted_object_set(alloc))?);
+    assert_eq!(rt;
+        first_wrong(&[
+            is_made(object_field(alloc), value_field(alloc)),
+            is_made(of_type(alloc), wanted_type(alloc)),
+            is_made(of_object_set(alloc), wanted_object_set(alloc)),
+        ]),
+        None
+    );
     Ok(())
 }
 
@@ -128,9 +139,14 @@ fn field_type(alloc: Global) -> Mem<InformationObjectFieldReference> {
 #[test]
 fn of_object_sets(rt: HostRuntime) -> Result<(), Fail> {
     let alloc = rt.alloc();
-    assert!(rt; is_made(object_set_value(alloc), inline(alloc))?);
-    assert!(rt; is_made(ObjectSetValue::from_parts(alloc, "b"), reference(alloc))?);
-    assert!(rt; is_made(object_set(alloc), extended_set(alloc))?);
-    assert!(rt; is_made(field_reference(alloc), field_type(alloc))?);
+    assert_eq!(rt;
+        first_wrong(&[
+            is_made(object_set_value(alloc), inline(alloc)),
+            is_made(ObjectSetValue::from_parts(alloc, "b"), reference(alloc)),
+            is_made(object_set(alloc), extended_set(alloc)),
+            is_made(field_reference(alloc), field_type(alloc)),
+        ]),
+        None
+    );
     Ok(())
 }

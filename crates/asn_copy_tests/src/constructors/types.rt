@@ -1,6 +1,7 @@
 //! Types.
 
 use crate::comparing::{is_made, list, pair};
+use crate::rows::first_wrong;
 use crate::trees::{
     bit_string, boolean, character_string, choice, choice_option, constraint_list, distinguished,
     enumeral, enumerated, integer, list_type, member, object_identifier, octet_string, real,
@@ -60,12 +61,17 @@ fn constrained_text(alloc: Global) -> Mem<CharacterString> {
 #[test]
 fn of_constraints_alone(rt: HostRuntime) -> Result<(), Fail> {
     let alloc = rt.alloc();
-    assert!(rt; is_made(boolean(alloc), constrained_boolean(alloc))?);
-    assert!(rt; is_made(real(alloc), constrained_real(alloc))?);
-    assert!(rt; is_made(octet_string(alloc), constrained_octets(alloc))?);
-    assert!(rt; is_made(object_identifier(alloc), constrained_identifier(alloc))?);
-    assert!(rt; is_made(time(alloc), constrained_time(alloc))?);
-    assert!(rt; is_made(character_string(alloc), constrained_text(alloc))?);
+    assert_eq!(rt;
+        first_wrong(&[
+            is_made(boolean(alloc), constrained_boolean(alloc)),
+            is_made(real(alloc), constrained_real(alloc)),
+            is_made(octet_string(alloc), constrained_octets(alloc)),
+            is_made(object_identifier(alloc), constrained_identifier(alloc)),
+            is_made(time(alloc), constrained_time(alloc)),
+            is_made(character_string(alloc), constrained_text(alloc)),
+        ]),
+        None
+    );
     Ok(())
 }
 
@@ -125,15 +131,18 @@ fn half_open(alloc: Global) -> Mem<Integer> {
 #[test]
 fn of_numbers(rt: HostRuntime) -> Result<(), Fail> {
     let alloc = rt.alloc();
-    assert!(rt; is_made(distinguished(alloc), two(alloc))?);
-    assert!(rt; is_made(integer(alloc), named_numbers(alloc))?);
-    assert!(rt; is_made(bit_string(alloc), named_bits(alloc))?);
-    assert!(rt; is_made(Integer::from_bounds(alloc, -1, 8, true), closed(alloc))?);
-    assert!(rt;
-        is_made(
-            Integer::from_optional_bounds(alloc, None, Some(8), true),
-            half_open(alloc)
-        )?
+    assert_eq!(rt;
+        first_wrong(&[
+            is_made(distinguished(alloc), two(alloc)),
+            is_made(integer(alloc), named_numbers(alloc)),
+            is_made(bit_string(alloc), named_bits(alloc)),
+            is_made(Integer::from_bounds(alloc, -1, 8, true), closed(alloc)),
+            is_made(
+                Integer::from_optional_bounds(alloc, None, Some(8), true),
+                half_open(alloc)
+            ),
+        ]),
+        None
     );
     Ok(())
 }
@@ -222,10 +231,15 @@ fn additions(sequence: Mem<SequenceOrSet>) -> Mem<(bool, bool, bool)> {
 #[test]
 fn of_sequences(rt: HostRuntime) -> Result<(), Fail> {
     let alloc = rt.alloc();
-    assert!(rt; is_made(member(alloc), defaulted(alloc))?);
-    assert!(rt; is_made(optional_member(alloc), optional(alloc))?);
-    assert!(rt; is_made(sequence(alloc), with_components(alloc))?);
-    assert!(rt; is_made(of_members(alloc), with_members(alloc))?);
+    assert_eq!(rt;
+        first_wrong(&[
+            is_made(member(alloc), defaulted(alloc)),
+            is_made(optional_member(alloc), optional(alloc)),
+            is_made(sequence(alloc), with_components(alloc)),
+            is_made(of_members(alloc), with_members(alloc)),
+        ]),
+        None
+    );
     assert_eq!(rt; additions(of_members(alloc))?, (false, true, false));
     Ok(())
 }
@@ -292,11 +306,16 @@ fn constrained_reference(alloc: Global) -> Mem<DeclarationElsewhere> {
 #[test]
 fn of_others(rt: HostRuntime) -> Result<(), Fail> {
     let alloc = rt.alloc();
-    assert!(rt; is_made(list_type(alloc), list_of_null(alloc))?);
-    assert!(rt; is_made(choice_option(alloc), tagged_option(alloc))?);
-    assert!(rt; is_made(choice(alloc), two_options(alloc))?);
-    assert!(rt; is_made(enumerated(alloc), two_items(alloc))?);
-    assert!(rt; is_made(selection(alloc), selected(alloc))?);
-    assert!(rt; is_made(reference(alloc), constrained_reference(alloc))?);
+    assert_eq!(rt;
+        first_wrong(&[
+            is_made(list_type(alloc), list_of_null(alloc)),
+            is_made(choice_option(alloc), tagged_option(alloc)),
+            is_made(choice(alloc), two_options(alloc)),
+            is_made(enumerated(alloc), two_items(alloc)),
+            is_made(selection(alloc), selected(alloc)),
+            is_made(reference(alloc), constrained_reference(alloc)),
+        ]),
+        None
+    );
     Ok(())
 }
