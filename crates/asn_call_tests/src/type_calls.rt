@@ -188,10 +188,7 @@ fn names_that_are_types(rt: HostRuntime) -> Result<(), Fail> {
     assert_eq!(rt;
         first_wrong(&[
             is_reference(with_parent, Some("o")),
-            is_reference(
-                type_of(alloc, None, "TIME"),
-                None
-            ),
+            is_reference(type_of(alloc, None, "TIME"), None),
         ]),
         None
     );
