@@ -10,7 +10,8 @@ use Rattle.asn_tree.specs.declared.definitions.ParameterGovernor.{ParameterGover
 use Rattle.asn_tree.specs.declared.definitions.ParameterGovernor.TheVariants as governor
 use Rattle.asn_tree.specs.declared.definitions.Parameterization.{Parameterization}
 use Rattle.asn_tree.specs.declared.definitions.ToplevelTypeDefinition.{ToplevelTypeDefinition}
-use Rattle.asn_meaning.specs.Scopes.{Bound, Scope}
+use Rattle.asn_meaning.specs.Answers.{once}
+use Rattle.asn_meaning.specs.Scopes.{Bound, Scope, bare, entered}
 
 joined_layer : (lists : Lists) (c : ConstraintLayer) (others : List (List Parameter)) → joined lists (list_at c others) ≡ joined (with_layer lists c) others
 joined_layer lists (Constraint-F.SubtypeConstraint set) others = refl
@@ -77,3 +78,8 @@ pub instance_with_lists : (scope : Scope) (d : ToplevelTypeDefinition) (p : Opti
 instance_with_lists scope d p [] e = absurd cc
 instance_with_lists scope d p (first ∷ []) e = absurd cc
 instance_with_lists scope d p (first ∷ second ∷ others) e = instance_lists scope d p first second others
+
+pub instance_entered : (scope : Scope) (d : ToplevelTypeDefinition) (p : Option Parameterization) (lists : List (List Parameter)) (template : Parameterization) (arguments : List Parameter) (inner : Scope) →
+    counted lists ≡ OneList arguments → p ≡ Some template → entered scope template.parameters arguments ≡ Some inner → Some (bare inner d.ty) ≡ instance scope d p lists
+instance_entered scope d p lists template arguments inner e f g =
+    sym (instance_with_list scope d p lists arguments e ∙ ap (λ q. instance scope d q (arguments ∷ [])) f ∙ ap (λ s. once None s (λ i. Some (bare i d.ty))) g)

@@ -65,7 +65,7 @@ pub fn entered<'a>(
 /// takes one list, any other definition none (X.683 9.1).
 ///
 /// Err: want of memory.
-#[tactic(auto, using(crate::proofs::Listing::instance_alone, crate::proofs::Listing::instance_with_list, crate::proofs::Listing::instance_with_lists))]
+#[tactic(auto, using(crate::proofs::Listing::instance_alone, crate::proofs::Listing::instance_with_list, crate::proofs::Listing::instance_with_lists, crate::proofs::Listing::instance_entered))]
 pub fn instance<'a>(
     alloc: Global,
     scope: &Scope<'a>,
