@@ -151,7 +151,7 @@ from_first : (M : Meaning) (scope : Scope) (x : StructLayer) (i : ℕ) (m : Sequ
     ≡ and_then (put_at M scope x i) (and_then (Some (written_member scope x.extensible i m ∷ [])) (members_from M scope x (i + 1) (drop (i + 1) x.members)))
 from_first M scope x i m lt e =
     ap (λ ms. members_from M scope x i ms) (drop_more x.members i m lt ∙ ap (λ y. y ∷ drop (i + 1) x.members) (sym e))
-    ∙ ap (λ n. and_then (put_at M scope x i) (and_then (Some (written_member scope x.extensible i m ∷ [])) (members_from M scope x n (drop (i + 1) x.members)))) (sym add-one)
+    ∙ ap (λ n. and_then (put_at M scope x i) (and_then (Some (written_member scope x.extensible i m ∷ [])) (members_from M scope x n (drop (i + 1) x.members)))) (sym (add-one i))
 
 pub from_lost : (M : Meaning) (scope : Scope) (x : StructLayer) (out : List Member) (i : ℕ) (m : SequenceOrSetMember) → i < length x.members → m ≡ get_or x.members i m →
     put_behind out (put_at M scope x i) ≡ None → put_behind out (members_from M scope x i (drop i x.members)) ≡ None

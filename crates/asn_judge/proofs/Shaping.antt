@@ -40,11 +40,11 @@ fields_first names fs i f lt e =
 
 pub fields_in : (names : List (List ℕ)) (fs : List Field) (i : ℕ) (f : Field) → i < length fs → f ≡ get_or fs i f → is_among names (out-Field f).name ≡ true →
     are_among names (shown_fields (drop i fs)) ≡ are_among names (shown_fields (drop (i + 1) fs))
-fields_in names fs i f lt e yes = fields_first names fs i f lt e ∙ ap (λ b. b && are_among names (shown_fields (drop (i + 1) fs))) yes
+fields_in names fs i f lt e among = fields_first names fs i f lt e ∙ ap (λ b. b && are_among names (shown_fields (drop (i + 1) fs))) among
 
 pub fields_out : (names : List (List ℕ)) (fs : List Field) (i : ℕ) (f : Field) → i < length fs → f ≡ get_or fs i f → is_among names (out-Field f).name ≡ false →
     are_among names (shown_fields (drop i fs)) ≡ false
-fields_out names fs i f lt e no = fields_first names fs i f lt e ∙ ap (λ b. b && are_among names (shown_fields (drop (i + 1) fs))) no
+fields_out names fs i f lt e outside = fields_first names fs i f lt e ∙ ap (λ b. b && are_among names (shown_fields (drop (i + 1) fs))) outside
 
 pub fields_done : (names : List (List ℕ)) (fs : List Field) (i : ℕ) → length fs ≤ i → are_among names (shown_fields (drop i fs)) ≡ true
 fields_done names fs i le = ap (λ xs. are_among names (shown_fields xs)) (drop_all i fs le)

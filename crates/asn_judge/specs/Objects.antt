@@ -1,7 +1,9 @@
 -- The field of meaning that a field which an object gives stands for.
-use Rattle.std.specs.Prelude.{ℕ, List}
+use Rattle.std.specs.Prelude.{ℕ, List, Bool, true, false}
 use Rattle.asn_tree.specs.declared.objects.InformationObjectField.{InformationObjectField}
 use Rattle.asn_tree.specs.declared.objects.InformationObjectField.TheVariants as field
+use Rattle.asn_tree.specs.declared.objects.InformationObjectFields.{InformationObjectFields-F}
+use Rattle.asn_meaning.specs.Layers.{FieldsLayer}
 use Rattle.asn_judge.specs.declared.objects.GivenField.{GivenField}
 use Rattle.asn_judge.specs.declared.objects.Gives.{Gives}
 use Rattle.asn_judge.specs.declared.objects.Gives.TheVariants as lent
@@ -15,3 +17,8 @@ shown_gives name (lent.Set s) = field.ObjectSetField (record { identifier = name
 
 abbrev pub shown_given : GivenField → InformationObjectField
 shown_given f = shown_gives f.name.now f.gives
+
+-- whether an object's fields are written in its class's own syntax (X.681 11.6)
+abbrev pub in_own_syntax : FieldsLayer → Bool
+in_own_syntax (InformationObjectFields-F.DefaultSyntax fields) = false
+in_own_syntax (InformationObjectFields-F.CustomSyntax items) = true

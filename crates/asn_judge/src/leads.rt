@@ -19,7 +19,8 @@ use crate::kinds::{Kind, Reference, TypeForm, kind_of};
 use crate::names::reference_target;
 use crate::places::{Place, Target};
 use crate::scopes::Scope;
-use asn_memory::{Mem, Text};
+use crate::stopped::Judged;
+use asn_memory::Text;
 use asn_tree::{ChoiceOption, ChoiceSelectionType, ToplevelDefinition};
 use std::alloc::Global;
 
@@ -110,7 +111,7 @@ fn selection_target<'a>(
     steps: usize,
     scope: &Scope<'a>,
     selection: &'a ChoiceSelectionType,
-) -> Mem<Option<Target<'a>>>
+) -> Judged<Option<Target<'a>>>
     ensures { IfOk result (λ target. option_map shown_target target ≡ selection_target (meaning definitions.now steps) (shown scope.now) selection.now) }
 {
     match head_named(alloc, definitions, steps, scope, &selection.choice_name)? {
@@ -129,7 +130,7 @@ pub fn lead_of<'a>(
     definitions: &'a [ToplevelDefinition],
     steps: usize,
     place: &Place<'a>,
-) -> Mem<Lead<'a>>
+) -> Judged<Lead<'a>>
     ensures { IfOk result (λ l. shown_lead l ≡ lead definitions.now (meaning definitions.now steps) (shown_place place.now)) }
 {
     match kind_of(place.ty) {
@@ -172,7 +173,7 @@ pub fn head<'a>(
     definitions: &'a [ToplevelDefinition],
     steps: usize,
     place: &Place<'a>,
-) -> Mem<Option<Place<'a>>>
+) -> Judged<Option<Place<'a>>>
     ensures { IfOk result (λ found. option_map shown_place found ≡ (meaning definitions.now steps).head (shown_place place.now)) }
 {
     if steps == 0 {
@@ -201,7 +202,7 @@ pub fn head_named<'a>(
     steps: usize,
     scope: &Scope<'a>,
     name: &'a Text,
-) -> Mem<Option<Place<'a>>>
+) -> Judged<Option<Place<'a>>>
     ensures { IfOk result (λ found. option_map shown_place found ≡ head_named (meaning definitions.now steps) (shown scope.now) name.now) }
 {
     let scope = scope.copy(alloc)?;

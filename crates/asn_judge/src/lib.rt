@@ -3,7 +3,7 @@
 //! names lead to, the members of a SEQUENCE or SET, and which trees fit a type's kind at every depth.
 //!
 //! What meaning knows within a number of steps, a call computes by `steps`, which counts down. An object in its class's own
-//! syntax is not read yet: a call that comes to one answers as for want of memory, and says nothing of it.
+//! syntax is not followed yet: a call that comes to one stops, and says so (`Stopped::OwnSyntax`).
 //!
 //! It stands on the trees and on asn_meaning, borrows the trees, and copies no more than scopes. Each call is proved to
 //! give what its definition says, so that tests ask the definitions themselves.
@@ -22,6 +22,7 @@ mod objects;
 mod places;
 mod scopes;
 mod shapes;
+mod stopped;
 mod templates;
 mod trees;
 mod values;
@@ -43,6 +44,7 @@ pub use shapes::{
     are_members, fits, is_bits, is_identifier, is_item, is_null, is_octets, is_opaque, is_real,
     is_text, is_truth_value, is_whole_number,
 };
+pub use stopped::{Judged, Stopped};
 pub use templates::{entered, instance};
 pub use trees::{Field, Tree, View, find_field};
 pub use values::{ValueForm, value_written};

@@ -13,6 +13,7 @@ use crate::kinds::{Kind, TypeForm, kind_of};
 use crate::leads::head_named;
 use crate::places::Place;
 use crate::scopes::Scope;
+use crate::stopped::Judged;
 use asn_memory::{List, Mem, Text};
 use asn_tree::{SequenceOrSet, SequenceOrSetMember, ToplevelDefinition};
 use std::alloc::Global;
@@ -143,7 +144,7 @@ pub fn members_of<'a>(
     definitions: &'a [ToplevelDefinition],
     steps: usize,
     head: &Place<'a>,
-) -> Mem<Option<List<Member<'a>>>>
+) -> Judged<Option<List<Member<'a>>>>
     ensures { IfOk result (λ members. option_map shown_members members ≡ members_of (meaning definitions.now steps) (shown_place head.now)) }
 {
     match kind_of(head.ty) {
@@ -183,7 +184,7 @@ fn components_of<'a>(
     scope: &Scope<'a>,
     among: bool,
     name: &'a Text,
-) -> Mem<Option<List<Member<'a>>>>
+) -> Judged<Option<List<Member<'a>>>>
     ensures { IfOk result (λ members. option_map shown_members members ≡ components_of (meaning definitions.now steps) (shown scope.now) among name.now) }
 {
     match head_named(alloc, definitions, steps, scope, name)? {
@@ -211,7 +212,7 @@ fn with_components<'a>(
     written: &'a SequenceOrSet,
     number: usize,
     members: List<Member<'a>>,
-) -> Mem<Option<List<Member<'a>>>>
+) -> Judged<Option<List<Member<'a>>>>
     ensures { IfOk result (λ all. option_map shown_members all ≡ and_then (Some (shown_members members.entry)) (put_in (meaning definitions.now steps) (shown scope.now) number (out-SequenceOrSet written.now).components_of (out-SequenceOrSet written.now).components_at)) }
 {
     let mut all = members;
@@ -244,7 +245,7 @@ fn members_at<'a>(
     steps: usize,
     scope: &Scope<'a>,
     written: &'a SequenceOrSet,
-) -> Mem<Option<List<Member<'a>>>>
+) -> Judged<Option<List<Member<'a>>>>
     ensures { IfOk result (λ members. option_map shown_members members ≡ members_at (meaning definitions.now steps) (shown scope.now) (out-SequenceOrSet written.now)) }
 {
     let mut found = List::new(alloc);
@@ -282,7 +283,7 @@ pub fn struct_members<'a>(
     steps: usize,
     scope: &Scope<'a>,
     written: &'a SequenceOrSet,
-) -> Mem<Option<List<Member<'a>>>>
+) -> Judged<Option<List<Member<'a>>>>
     ensures { IfOk result (λ members. option_map shown_members members ≡ (meaning definitions.now steps).members (shown scope.now) (out-SequenceOrSet written.now)) }
 {
     if steps == 0 {

@@ -16,6 +16,7 @@ use crate::lists::{ArgumentLists, argument_lists};
 use crate::objects::field_target;
 use crate::places::{Place, Target};
 use crate::scopes::{Bound, Scope};
+use crate::stopped::Judged;
 use crate::templates::instance;
 use crate::written::{Written, as_written};
 use asn_memory::Mem;
@@ -149,7 +150,7 @@ pub fn reference_target<'a>(
     definitions: &'a [ToplevelDefinition],
     scope: &Scope<'a>,
     reference: Reference<'a>,
-) -> Mem<Option<Target<'a>>>
+) -> Judged<Option<Target<'a>>>
     ensures { IfOk result (λ target. option_map shown_target target ≡ reference_target definitions.now (shown scope.now) (shown_reference reference.entry)) }
 {
     match reference {

@@ -1,23 +1,25 @@
 //! What objects give for the fields of their class (X.681 11).
 
-ghost use Rattle.asn_judge.specs.Objects.{shown_given};
+ghost use Rattle.asn_judge.specs.Objects.{in_own_syntax, shown_given};
 ghost use Rattle.asn_judge.specs.Places.{shown_target};
 ghost use Rattle.asn_judge.specs.Scopes.{shown};
 ghost use Rattle.asn_meaning.specs.Names.{field_target, marked, object_field, type_of_field};
 ghost use Rattle.asn_meaning.specs.Objects.{given};
 ghost use Rattle.asn_notation.specs.Syntax.{given_name};
 ghost use Rattle.asn_tree.specs.declared.objects.InformationObjectField.{out-InformationObjectField};
+ghost use Rattle.asn_tree.specs.declared.objects.InformationObjectFields.{out-InformationObjectFields};
 ghost use Rattle.std.specs.List.{find};
 ghost use Rattle.std.specs.Option.{option_copied, option_map};
-ghost use Rattle.std.specs.Prelude.{◌≡◌, IfOk};
+ghost use Rattle.std.specs.Prelude.{◌≡◌, IfOk, OnErr, true};
 ghost use Rattle.std.specs.Str.{bytes_eq};
 
 use crate::definitions::object_named;
 use crate::kinds::TypeForm;
 use crate::places::Target;
 use crate::scopes::Scope;
+use crate::stopped::{Judged, Stopped};
 use crate::values::ValueForm;
-use asn_memory::{Mem, OutOfMemory, Text};
+use asn_memory::{Mem, Text};
 use asn_tree::{
     InformationObject, InformationObjectField, InformationObjectFields, ObjectSet,
     ToplevelDefinition,
@@ -88,14 +90,15 @@ fn find_given<'a>(
 
 /// The field that an object gives by this name with its `&` (X.681 11.4).
 ///
-/// Err: want of memory, and an object in its class's own syntax, which is not read yet.
+/// Err: `OwnSyntax`, for an object in its class's own syntax (X.681 11.6) and for no other.
 #[tactic(auto, using(crate::proofs::Giving::given_default))]
 pub fn given<'a>(
     definitions: &'a [ToplevelDefinition],
     object: &'a InformationObject,
     name: &str,
-) -> Mem<Option<GivenField<'a>>>
-    ensures { IfOk result (λ field. option_map shown_given field ≡ given definitions.now object.now name.now) }
+) -> Judged<Option<GivenField<'a>>>
+    ensures ok { IfOk result (λ field. option_map shown_given field ≡ given definitions.now object.now name.now) }
+    ensures err { OnErr result (in_own_syntax (out-InformationObjectFields object.now.fields) ≡ true) }
 {
     match &object.fields {
         InformationObjectFields::DefaultSyntax(fields) => {
@@ -104,7 +107,7 @@ pub fn given<'a>(
                 Some(field) => Ok(Some(as_given(field))),
             }
         }
-        InformationObjectFields::CustomSyntax(_) => Err(OutOfMemory),
+        InformationObjectFields::CustomSyntax(_) => Err(Stopped::OwnSyntax),
     }
 }
 
@@ -121,7 +124,7 @@ fn marked(alloc: Global, name: &str) -> Mem<Text>
 
 /// The field that an object gives, by the field's name without its `&`; a dummy is no object.
 ///
-/// Err: as `given`.
+/// Err: want of memory, or as `given`.
 #[tactic(auto, using(crate::proofs::Giving::field_of_dummy, crate::proofs::Giving::field_of_none, crate::proofs::Giving::field_of_object))]
 pub fn object_field<'a>(
     alloc: Global,
@@ -129,7 +132,7 @@ pub fn object_field<'a>(
     scope: &Scope<'a>,
     name: &str,
     field: &str,
-) -> Mem<Option<GivenField<'a>>>
+) -> Judged<Option<GivenField<'a>>>
     ensures { IfOk result (λ given. option_map shown_given given ≡ object_field definitions.now (shown scope.now) name.now field.now) }
 {
     if scope.bound_to(name).is_some() {
@@ -161,7 +164,7 @@ fn type_of_field<'a>(given: GivenField<'a>) -> Option<Target<'a>>
 
 /// `o.&T`: the type that the object gives (X.681 15.1).
 ///
-/// Err: as `given`.
+/// Err: want of memory, or as `given`.
 #[tactic(auto, using(crate::proofs::Giving::target_of_none, crate::proofs::Giving::target_of_some))]
 pub fn field_target<'a>(
     alloc: Global,
@@ -169,7 +172,7 @@ pub fn field_target<'a>(
     scope: &Scope<'a>,
     name: &str,
     field: &str,
-) -> Mem<Option<Target<'a>>>
+) -> Judged<Option<Target<'a>>>
     ensures { IfOk result (λ target. option_map shown_target target ≡ field_target definitions.now (shown scope.now) name.now field.now) }
 {
     match object_field(alloc, definitions, scope, name, field)? {

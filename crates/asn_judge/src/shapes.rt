@@ -23,8 +23,8 @@ use crate::leads::head;
 use crate::members::{Member, member_named, struct_members};
 use crate::places::Place;
 use crate::scopes::Scope;
+use crate::stopped::Judged;
 use crate::trees::{Field, Tree, View, find_field};
-use asn_memory::Mem;
 use asn_tree::{ASN1Type, ChoiceOption, Enumeral, SequenceOrSet, ToplevelDefinition};
 use std::alloc::Global;
 
@@ -294,7 +294,7 @@ fn member_fits<'a>(
     steps: usize,
     member: &Member<'a>,
     tree: Option<&Tree>,
-) -> Mem<Answer>
+) -> Judged<Answer>
     ensures { IfOk result (λ answer. known answer ≡ member_judged (λ m u. (meaning definitions.now steps).fits (member_place m) u) (shown_member member.now) (option_map (λ t. shown_tree t.now) tree.entry)) }
 {
     match tree {
@@ -319,7 +319,7 @@ fn fields_fit<'a>(
     steps: usize,
     members: &[Member<'a>],
     fields: &[Field],
-) -> Mem<Answer>
+) -> Judged<Answer>
     ensures { IfOk result (λ answer. known answer ≡ fields_judged (λ m u. (meaning definitions.now steps).fits (member_place m) u) (shown_fields fields.now) (shown_members members.now)) }
 {
     let mut answer = Answer::of(are_members(members, fields));
@@ -342,7 +342,7 @@ fn struct_fits<'a>(
     scope: &Scope<'a>,
     written: &'a SequenceOrSet,
     tree: &Tree,
-) -> Mem<Answer>
+) -> Judged<Answer>
     ensures { IfOk result (λ answer. known answer ≡ struct_judged (λ m u. (meaning definitions.now steps).fits (member_place m) u) ((meaning definitions.now steps).members (shown scope.now) (out-SequenceOrSet written.now)) (shown_tree tree.now)) }
 {
     match tree.view() {
@@ -382,7 +382,7 @@ fn each_fits<'a>(
     steps: usize,
     place: &Place<'a>,
     trees: &[Tree],
-) -> Mem<Answer>
+) -> Judged<Answer>
     ensures { IfOk result (λ answer. known answer ≡ trees_judged ((meaning definitions.now steps).fits (shown_place place.now)) (shown_trees trees.now)) }
 {
     let mut answer = Answer::Yes;
@@ -404,7 +404,7 @@ fn list_fits<'a>(
     scope: &Scope<'a>,
     ty: &'a ASN1Type,
     tree: &Tree,
-) -> Mem<Answer>
+) -> Judged<Answer>
     ensures { IfOk result (λ answer. known answer ≡ list_judged ((meaning definitions.now steps).fits (record { scope = shown scope.now; ty = ty.now })) (shown_tree tree.now)) }
 {
     match tree.view() {
@@ -441,7 +441,7 @@ fn choice_fits<'a>(
     scope: &Scope<'a>,
     options: &'a [ChoiceOption],
     tree: &Tree,
-) -> Mem<Answer>
+) -> Judged<Answer>
     ensures { IfOk result (λ answer. known answer ≡ choice_judged (λ o u. (meaning definitions.now steps).fits (option_place (shown scope.now) o) u) options.now (shown_tree tree.now)) }
 {
     match tree.view() {
@@ -480,7 +480,7 @@ fn head_fits<'a>(
     steps: usize,
     head: &Place<'a>,
     tree: &Tree,
-) -> Mem<Answer>
+) -> Judged<Answer>
     ensures { IfOk result (λ answer. known answer ≡ head_fits (meaning definitions.now steps) (shown_tree tree.now) (shown_place head.now)) }
 {
     let scope = &head.scope;
@@ -526,7 +526,7 @@ pub fn fits<'a>(
     steps: usize,
     place: &Place<'a>,
     tree: &Tree,
-) -> Mem<Answer>
+) -> Judged<Answer>
     ensures { IfOk result (λ answer. known answer ≡ (meaning definitions.now steps).fits (shown_place place.now) (shown_tree tree.now)) }
 {
     if steps == 0 {

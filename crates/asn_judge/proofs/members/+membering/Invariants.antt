@@ -22,12 +22,12 @@ decreases-members_at l = 5 * l.steps + 4
 abbrev pub decreases-struct_members : goal.decreases-struct_members
 decreases-struct_members l = 5 * l.steps
 
-abbrev pub invariant-loop-i : goal.invariant-loop-i
-invariant-loop-i l =
+abbrev pub invariant-with_components-loop-i : goal.invariant-with_components-loop-i
+invariant-with_components-loop-i l =
     put_behind (shown_members l.all) (put_in (meaning l.definitions l.steps) (shown l.scope) l.number (drop l.i l.names) (drop l.i l.places))
     ≡ put_behind (shown_members l.initial.all) (put_in (meaning l.definitions l.steps) (shown l.scope) l.number l.names l.places)
 
-abbrev pub invariant-loop-number : goal.invariant-loop-number
-invariant-loop-number l =
+abbrev pub invariant-members_at-loop-number : goal.invariant-members_at-loop-number
+invariant-members_at-loop-number l =
     put_behind (shown_members l.found) (members_from (meaning l.definitions l.steps) (shown l.scope) (out-SequenceOrSet l.written) l.number (drop l.number l.members))
     ≡ members_at (meaning l.definitions l.steps) (shown l.scope) (out-SequenceOrSet l.written)

@@ -34,12 +34,12 @@ decreases-head_fits l = 5 * l.steps + 4
 abbrev pub decreases-fits : goal.decreases-fits
 decreases-fits l = 5 * l.steps
 
-abbrev pub invariant-loop-member : goal.invariant-loop-member
-invariant-loop-member l =
+abbrev pub invariant-fields_fit-loop-member : goal.invariant-fields_fit-loop-member
+invariant-fields_fit-loop-member l =
     both (known l.answer) (each (member_asked (λ m u. (meaning l.definitions l.steps).fits (member_place m) u) (shown_fields l.fields)) (shown_members (drop l.member-index l.members)))
     ≡ fields_judged (λ m u. (meaning l.definitions l.steps).fits (member_place m) u) (shown_fields l.fields) (shown_members l.members)
 
-abbrev pub invariant-loop-tree : goal.invariant-loop-tree
-invariant-loop-tree l =
+abbrev pub invariant-each_fits-loop-tree : goal.invariant-each_fits-loop-tree
+invariant-each_fits-loop-tree l =
     both (known l.answer) (trees_judged ((meaning l.definitions l.steps).fits (shown_place l.place)) (shown_trees (drop l.tree-index l.trees)))
     ≡ trees_judged ((meaning l.definitions l.steps).fits (shown_place l.place)) (shown_trees l.trees)
