@@ -1,6 +1,6 @@
 //! The plain slow program that computes the definitions of meaning, as far as it goes: which definition a name stands
 //! for, what a scope binds, what a type and a value are made of, what a class's and an object's field is, the head that
-//! names lead to, the members of a SEQUENCE or SET, and which trees fit a type's kind at every depth.
+//! names lead to, and which trees fit a kind of type at one level.
 //!
 //! What meaning knows within a number of steps, a call computes by `steps`, which counts down. An object in its class's own
 //! syntax is not followed yet: a call that comes to one stops, and says so (`Stopped::OwnSyntax`).
@@ -35,14 +35,14 @@ pub use items::{item_named, number_named, option_named};
 pub use kinds::{Kind, Reference, TypeForm, kind_of, kind_of_tree};
 pub use leads::{Lead, head, head_named, lead_of};
 pub use lists::{ArgumentLists, argument_lists};
-pub use members::{Member, member_named, members_of, struct_members};
+pub use members::{Member, member_named};
 pub use names::{dummy_target, name_target, reference_target};
 pub use objects::{GivenField, Gives, field_target, given, object_field};
 pub use places::{Place, Target};
 pub use scopes::{Argument, Bound, Scope, with_argument};
 pub use shapes::{
-    are_members, fits, is_bits, is_identifier, is_item, is_null, is_octets, is_opaque, is_real,
-    is_text, is_truth_value, is_whole_number,
+    are_members, is_bits, is_identifier, is_item, is_null, is_octets, is_opaque, is_real, is_text,
+    is_truth_value, is_whole_number,
 };
 pub use stopped::{Judged, Stopped};
 pub use templates::{entered, instance};
