@@ -4,3 +4,8 @@ pub mod Listing
 pub mod Showing
 pub mod Fields
 pub mod Finding
+pub mod Entering
+pub mod Giving
+pub mod Leading
+pub mod Membering
+pub mod Shaping

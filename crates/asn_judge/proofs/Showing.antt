@@ -1,9 +1,12 @@
 -- What a tree of the code stands for, by its variant.
 use Rattle.std.proofs.Common.{◌≡◌, ℕ, ◌+◌, ◌<◌, List, ◌∷◌, drop, length, get_or, Bool, true, false, refl, sym, ap, ◌∙◌}
-use Rattle.std.specs.Prelude.{Option, Some, None, if◌then◌else◌, map}
+use Rattle.std.specs.Prelude.{Option, Some, None, if◌then◌else◌, map, ℤ}
 use Rattle.std.specs.Str.{bytes_eq, chars}
 use Rattle.std.proofs.lemmas.List.{drop_more}
 use Rattle.asn_judge.specs.declared.trees.Tree.{Tree, Tree-F, out-Tree, fold_out-Tree, map-Tree}
+use Rattle.asn_judge.specs.declared.trees.Tree.TheVariants as own
+use Rattle.asn_headers.specs.declared.headers.ObjectIdentifierValue.{ObjectIdentifierValue}
+use Rattle.asn_words.specs.declared.plain.RealValue.{RealValue}
 use Rattle.asn_judge.specs.declared.trees.Field.{Field, out-Field, fold_out-Field}
 use Rattle.asn_judge.specs.Trees.{Named, tree_at, field_at, shown_tree, shown_field, shown_fields, shown_trees}
 use Rattle.asn_meaning.specs.Rows.{arc_tree}
@@ -73,3 +76,44 @@ field_found fs i f name lt e same = named_first fs i f name lt e ∙ here (bytes
 pub field_passed : (fs : List Field) (i : ℕ) (f : Field) (name : List ℕ) → i < length fs → f ≡ get_or fs i f → bytes_eq (out-Field f).name name ≡ false →
     field_named (shown_fields (drop i fs)) name ≡ field_named (shown_fields (drop (i + 1) fs)) name
 field_passed fs i f name lt e differ = named_first fs i f name lt e ∙ past (bytes_eq (out-Field f).name name) _ _ differ
+
+-- ---- by the variant
+
+pub null_shown : (t : Tree) → t ≡ own.Null → shown_tree t ≡ level Tree-F.Null
+null_shown t e = shown_is t ∙ ap level (ap out-Tree e ∙ own.outs-Null)
+
+pub truth_shown : (t : Tree) (b : Bool) → t ≡ own.Truth b → shown_tree t ≡ level (Tree-F.Truth b)
+truth_shown t b e = shown_is t ∙ ap level (ap out-Tree e ∙ own.outs-Truth b)
+
+pub whole_shown : (t : Tree) (i : ℤ) → t ≡ own.Whole i → shown_tree t ≡ level (Tree-F.Whole i)
+whole_shown t i e = shown_is t ∙ ap level (ap out-Tree e ∙ own.outs-Whole i)
+
+pub item_shown : (t : Tree) (i : ℤ) → t ≡ own.Item i → shown_tree t ≡ level (Tree-F.Item i)
+item_shown t i e = shown_is t ∙ ap level (ap out-Tree e ∙ own.outs-Item i)
+
+pub real_shown : (t : Tree) (x : RealValue) → t ≡ own.Real x → shown_tree t ≡ level (Tree-F.Real x)
+real_shown t x e = shown_is t ∙ ap level (ap out-Tree e ∙ own.outs-Real x)
+
+pub bits_shown : (t : Tree) (bits : List Bool) → t ≡ own.Bits bits → shown_tree t ≡ level (Tree-F.Bits bits)
+bits_shown t bits e = shown_is t ∙ ap level (ap out-Tree e ∙ own.outs-Bits bits)
+
+pub octets_shown : (t : Tree) (octets : List ℕ) → t ≡ own.Octets octets → shown_tree t ≡ level (Tree-F.Octets octets)
+octets_shown t octets e = shown_is t ∙ ap level (ap out-Tree e ∙ own.outs-Octets octets)
+
+pub text_shown : (t : Tree) (text : List ℕ) → t ≡ own.Text text → shown_tree t ≡ level (Tree-F.Text text)
+text_shown t text e = shown_is t ∙ ap level (ap out-Tree e ∙ own.outs-Text text)
+
+pub arcs_shown : (t : Tree) (x : ObjectIdentifierValue) → t ≡ own.ObjectIdentifier x → shown_tree t ≡ level (Tree-F.ObjectIdentifier x)
+arcs_shown t x e = shown_is t ∙ ap level (ap out-Tree e ∙ own.outs-ObjectIdentifier x)
+
+pub struct_shown : (t : Tree) (fs : List Field) → t ≡ own.Struct fs → shown_tree t ≡ level (Tree-F.Struct fs)
+struct_shown t fs e = shown_is t ∙ ap level (ap out-Tree e ∙ own.outs-Struct fs)
+
+pub elements_shown : (t : Tree) (ts : List Tree) → t ≡ own.Elements ts → shown_tree t ≡ level (Tree-F.Elements ts)
+elements_shown t ts e = shown_is t ∙ ap level (ap out-Tree e ∙ own.outs-Elements ts)
+
+pub alternative_shown : (t : Tree) (name : List ℕ) (inner : Tree) → t ≡ own.Alternative name inner → shown_tree t ≡ level (Tree-F.Alternative name inner)
+alternative_shown t name inner e = shown_is t ∙ ap level (ap out-Tree e ∙ own.outs-Alternative name inner)
+
+pub opaque_shown : (t : Tree) → t ≡ own.Opaque → shown_tree t ≡ level Tree-F.Opaque
+opaque_shown t e = shown_is t ∙ ap level (ap out-Tree e ∙ own.outs-Opaque)

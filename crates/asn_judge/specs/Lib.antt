@@ -7,3 +7,7 @@ pub mod Places
 pub mod Lists
 pub mod Trees
 pub mod Classes
+pub mod Values
+pub mod Objects
+pub mod Leads
+pub mod Members

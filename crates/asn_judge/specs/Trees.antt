@@ -3,6 +3,8 @@ use Rattle.std.specs.Prelude.{ℕ, List, [], ◌∷◌, map}
 use Rattle.std.specs.Str.{chars}
 use Rattle.asn_judge.specs.declared.trees.Tree.{Tree, Tree-F, fold-Tree}
 use Rattle.asn_judge.specs.declared.trees.Field.{Field, Field-F, fold-Field}
+use Rattle.asn_judge.specs.declared.trees.View.{View}
+use Rattle.asn_judge.specs.declared.trees.View.TheVariants as view
 use Rattle.asn_meaning.specs.Rows.{arc_tree}
 use Rattle.asn_meaning.specs.ValueTrees.{ValueTree, Fields, no_field, field, ValueTrees, no_tree, tree}
 
@@ -48,3 +50,18 @@ shown_fields fs = fields (map shown_field fs)
 
 abbrev pub shown_trees : List Tree → ValueTrees
 shown_trees ts = trees (map shown_tree ts)
+
+abbrev pub shown_view : View → ValueTree
+shown_view view.Null = ValueTree.NullValue
+shown_view (view.Truth b) = ValueTree.TruthValue b
+shown_view (view.Whole i) = ValueTree.WholeNumber i
+shown_view (view.Item i) = ValueTree.ItemNumber i
+shown_view (view.Real x) = ValueTree.RealNumber x.mantissa x.base x.exponent
+shown_view (view.Bits bits) = ValueTree.Bits bits.now
+shown_view (view.Octets octets) = ValueTree.Octets octets.now
+shown_view (view.Text text) = ValueTree.Characters (chars text.now)
+shown_view (view.Arcs arcs) = ValueTree.ObjectIdentifierArcs (map arc_tree arcs.now)
+shown_view (view.Struct fs) = ValueTree.Struct (shown_fields fs.now)
+shown_view (view.Elements ts) = ValueTree.Elements (shown_trees ts.now)
+shown_view (view.Alternative name t) = ValueTree.Alternative name.now (shown_tree t.now)
+shown_view view.Opaque = ValueTree.Opaque

@@ -1,11 +1,11 @@
 //! Value trees: what values denote, whatever notation they are written in.
 
-ghost use Rattle.asn_judge.specs.Trees.{shown_fields, shown_tree, shown_trees};
+ghost use Rattle.asn_judge.specs.Trees.{shown_fields, shown_tree, shown_trees, shown_view};
 ghost use Rattle.asn_meaning.specs.ValueTrees.{field_named};
 ghost use Rattle.std.specs.Prelude.{◌≡◌, MatchOption, None, Some};
 
 use asn_memory::{Box, List, Text};
-use asn_tree::{ObjectIdentifierValue, RealValue};
+use asn_tree::{ObjectIdentifierArc, ObjectIdentifierValue, RealValue};
 
 /// A value tree.
 #[cycle(tree)]
@@ -45,6 +45,48 @@ pub enum Tree {
 pub struct Field {
     pub name: Text,
     pub tree: Tree,
+}
+
+/// One level of a value tree.
+#[derive(Clone, Copy)]
+pub enum View<'t> {
+    Null,
+    Truth(bool),
+    Whole(i128),
+    Item(i128),
+    Real(RealValue),
+    Bits(&'t [bool]),
+    Octets(&'t [u8]),
+    Text(&'t Text),
+    Arcs(&'t [ObjectIdentifierArc]),
+    Struct(&'t [Field]),
+    Elements(&'t [Tree]),
+    Alternative(&'t Text, &'t Tree),
+    Opaque,
+}
+
+impl Tree {
+    /// The tree's first level.
+    #[tactic(auto, using(crate::proofs::Showing::null_shown, crate::proofs::Showing::truth_shown, crate::proofs::Showing::whole_shown, crate::proofs::Showing::item_shown, crate::proofs::Showing::real_shown, crate::proofs::Showing::bits_shown, crate::proofs::Showing::octets_shown, crate::proofs::Showing::text_shown, crate::proofs::Showing::arcs_shown, crate::proofs::Showing::struct_shown, crate::proofs::Showing::elements_shown, crate::proofs::Showing::alternative_shown, crate::proofs::Showing::opaque_shown))]
+    pub fn view(&self) -> View<'_>
+        ensures { shown_view result ≡ shown_tree self.now }
+    {
+        match self {
+            Tree::Null => View::Null,
+            Tree::Truth(truth) => View::Truth(*truth),
+            Tree::Whole(number) => View::Whole(*number),
+            Tree::Item(number) => View::Item(*number),
+            Tree::Real(real) => View::Real(*real),
+            Tree::Bits(bits) => View::Bits(bits.as_slice()),
+            Tree::Octets(octets) => View::Octets(octets.as_slice()),
+            Tree::Text(text) => View::Text(text),
+            Tree::ObjectIdentifier(identifier) => View::Arcs(identifier.0.as_slice()),
+            Tree::Struct(fields) => View::Struct(fields.as_slice()),
+            Tree::Elements(trees) => View::Elements(trees.as_slice()),
+            Tree::Alternative(name, tree) => View::Alternative(name, tree.get()),
+            Tree::Opaque => View::Opaque,
+        }
+    }
 }
 
 /// The tree of the first field of the name.
