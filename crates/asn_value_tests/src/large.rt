@@ -55,9 +55,9 @@ fn is_read<O: Drop>(answer: ParserResult<O>, length: usize) -> bool {
     }
 }
 
-// Whether the rule with this number takes all of the text.
-fn is_tried(alloc: Global, text: &str, number: u8) -> bool {
-    match try_rule(alloc, text, RuleId::new(number), 0, 512) {
+// Whether the rule takes all of the text.
+fn is_tried(alloc: Global, text: &str, rule: RuleId) -> bool {
+    match try_rule(alloc, text, rule, 0, 512) {
         Ok(Outcome::End { offset, .. }) => offset == text.len(),
         _ => false,
     }
@@ -79,7 +79,7 @@ fn bits_read(rt: HostRuntime) -> Result<(), Fail> {
 #[test]
 fn bits_tried(rt: HostRuntime) -> Result<(), Fail> {
     let text = bits(rt.alloc())?;
-    assert!(rt; is_tried(rt.alloc(), text.as_str(), BIT_STRING_VALUE));
+    assert!(rt; is_tried(rt.alloc(), text.as_str(), RuleId::new(BIT_STRING_VALUE)));
     Ok(())
 }
 
@@ -99,7 +99,7 @@ fn octets_read(rt: HostRuntime) -> Result<(), Fail> {
 #[test]
 fn octets_tried(rt: HostRuntime) -> Result<(), Fail> {
     let text = octets(rt.alloc())?;
-    assert!(rt; is_tried(rt.alloc(), text.as_str(), BIT_STRING_VALUE));
+    assert!(rt; is_tried(rt.alloc(), text.as_str(), RuleId::new(BIT_STRING_VALUE)));
     Ok(())
 }
 
@@ -119,7 +119,13 @@ fn characters_read(rt: HostRuntime) -> Result<(), Fail> {
 #[test]
 fn characters_tried(rt: HostRuntime) -> Result<(), Fail> {
     let text = characters(rt.alloc())?;
-    assert!(rt; is_tried(rt.alloc(), text.as_str(), CHARACTER_STRING_VALUE));
+    assert!(rt;
+        is_tried(
+            rt.alloc(),
+            text.as_str(),
+            RuleId::new(CHARACTER_STRING_VALUE)
+        )
+    );
     Ok(())
 }
 
@@ -139,7 +145,13 @@ fn arcs_read(rt: HostRuntime) -> Result<(), Fail> {
 #[test]
 fn arcs_tried(rt: HostRuntime) -> Result<(), Fail> {
     let text = arcs(rt.alloc())?;
-    assert!(rt; is_tried(rt.alloc(), text.as_str(), OBJECT_IDENTIFIER_VALUE));
+    assert!(rt;
+        is_tried(
+            rt.alloc(),
+            text.as_str(),
+            RuleId::new(OBJECT_IDENTIFIER_VALUE)
+        )
+    );
     Ok(())
 }
 
@@ -159,7 +171,7 @@ fn members_read(rt: HostRuntime) -> Result<(), Fail> {
 #[test]
 fn members_tried(rt: HostRuntime) -> Result<(), Fail> {
     let text = members(rt.alloc())?;
-    assert!(rt; is_tried(rt.alloc(), text.as_str(), SEQUENCE_VALUE));
+    assert!(rt; is_tried(rt.alloc(), text.as_str(), RuleId::new(SEQUENCE_VALUE)));
     Ok(())
 }
 
@@ -179,6 +191,6 @@ fn items_read(rt: HostRuntime) -> Result<(), Fail> {
 #[test]
 fn items_tried(rt: HostRuntime) -> Result<(), Fail> {
     let text = items(rt.alloc())?;
-    assert!(rt; is_tried(rt.alloc(), text.as_str(), SEQUENCE_VALUE));
+    assert!(rt; is_tried(rt.alloc(), text.as_str(), RuleId::new(SEQUENCE_VALUE)));
     Ok(())
 }
