@@ -1,11 +1,3 @@
-pub mod Scoping
-pub mod Seeing
-pub mod Listing
 pub mod Showing
-pub mod Fields
-pub mod Finding
-pub mod Entering
-pub mod Giving
-pub mod Leading
 pub mod Membering
 pub mod Shaping

@@ -1,13 +1,3 @@
 pub mod Answers
-pub mod Scopes
-pub mod Kinds
-pub mod Definitions
-pub mod Written
-pub mod Places
-pub mod Lists
 pub mod Trees
-pub mod Classes
-pub mod Values
-pub mod Objects
-pub mod Leads
 pub mod Members

@@ -2,7 +2,7 @@
 use Rattle.std.specs.Prelude.{List, map}
 use Rattle.asn_tree.specs.declared.types.SequenceOrSetMember.{out-SequenceOrSetMember}
 use Rattle.asn_judge.specs.declared.members.Member.{Member as LentMember}
-use Rattle.asn_judge.specs.Scopes.{shown}
+use Rattle.asn_heads.specs.Scopes.{shown}
 use Rattle.asn_meaning.specs.Meaning.{Member}
 
 abbrev pub shown_member : LentMember → Member

@@ -1,51 +1,19 @@
-//! The plain slow program that computes the definitions of meaning, as far as it goes: which definition a name stands
-//! for, what a scope binds, what a type and a value are made of, what a class's and an object's field is, the head that
-//! names lead to, and which trees fit a kind of type at one level.
+//! A plain slow program that computes which trees a type accepts by the definitions of meaning, as far as it goes: which
+//! trees fit a kind of type at one level, and the members of a SEQUENCE or SET by name.
 //!
-//! What meaning knows within a number of steps, a call computes by `steps`, which counts down. An object in its class's own
-//! syntax is not followed yet: a call that comes to one stops, and says so (`Stopped::OwnSyntax`).
-//!
-//! It stands on the trees and on asn_meaning, borrows the trees, and copies no more than scopes. Each call is proved to
-//! give what its definition says, so that tests ask the definitions themselves.
+//! It stands on asn_heads, which tells where names lead, borrows the trees, and copies no more than scopes. Each call is
+//! proved to give what its definition says, so that tests ask the definitions themselves.
 #![tactic(auto)]
 
 mod answers;
-mod classes;
-mod definitions;
-mod items;
-mod kinds;
-mod leads;
-mod lists;
 mod members;
-mod names;
-mod objects;
-mod places;
-mod scopes;
 mod shapes;
-mod stopped;
-mod templates;
 mod trees;
-mod values;
-mod written;
 
 pub use answers::Answer;
-pub use classes::{FieldType, class_field_type};
-pub use definitions::{Class, class_named, is_class, object_named, type_named, value_named};
-pub use items::{item_named, number_named, option_named};
-pub use kinds::{Kind, Reference, TypeForm, kind_of, kind_of_tree};
-pub use leads::{Lead, head, head_named, lead_of};
-pub use lists::{ArgumentLists, argument_lists};
 pub use members::{Member, member_named};
-pub use names::{dummy_target, name_target, reference_target};
-pub use objects::{GivenField, Gives, field_target, given, object_field};
-pub use places::{Place, Target};
-pub use scopes::{Argument, Bound, Scope, with_argument};
 pub use shapes::{
     are_members, is_bits, is_identifier, is_item, is_null, is_octets, is_opaque, is_real, is_text,
     is_truth_value, is_whole_number,
 };
-pub use stopped::{Judged, Stopped};
-pub use templates::{entered, instance};
 pub use trees::{Field, Tree, View, find_field};
-pub use values::{ValueForm, value_written};
-pub use written::{Written, as_written};

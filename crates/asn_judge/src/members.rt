@@ -1,14 +1,12 @@
 //! A member of a SEQUENCE or SET, and the one of a name (X.680 25, 27).
 
 ghost use Rattle.asn_judge.specs.Members.{shown_member, shown_members};
-ghost use Rattle.asn_judge.specs.Places.{shown_place};
+ghost use Rattle.asn_heads.specs.Places.{shown_place};
 ghost use Rattle.asn_meaning.specs.Members.{may_be_absent, member_named, member_place};
 ghost use Rattle.std.specs.Option.{option_map};
 ghost use Rattle.std.specs.Prelude.{◌≡◌, IfOk};
 
-use crate::kinds::TypeForm;
-use crate::places::Place;
-use crate::scopes::Scope;
+use asn_heads::{Place, Scope, TypeForm};
 use asn_memory::Mem;
 use asn_tree::SequenceOrSetMember;
 use std::alloc::Global;

@@ -1,0 +1,10 @@
+pub mod Scopes
+pub mod Kinds
+pub mod Definitions
+pub mod Written
+pub mod Places
+pub mod Lists
+pub mod Classes
+pub mod Values
+pub mod Objects
+pub mod Leads

@@ -1,0 +1,215 @@
+//! Where types lead, and heads: the first type on the way that is no name (X.680 14.1, 30; X.681 14, 15; X.683 9).
+
+ghost use Rattle.asn_heads.specs.Leads.{shown_lead};
+ghost use Rattle.asn_heads.specs.Places.{shown_place, shown_target};
+ghost use Rattle.asn_heads.specs.Scopes.{shown};
+ghost use Rattle.asn_meaning.specs.Judge.{meaning};
+ghost use Rattle.asn_heads.specs.Kinds.{shown_type};
+ghost use Rattle.asn_heads.specs.Leads.{option_target};
+ghost use Rattle.asn_meaning.specs.Answers.{once};
+ghost use Rattle.asn_meaning.specs.Kinds.{kind_of_type};
+ghost use Rattle.asn_meaning.specs.Names.{field_lead, head_named, lead, leading, option_named, options_in, options_of, selection_target};
+ghost use Rattle.asn_heads.specs.Classes.{shown_field_type};
+ghost use Rattle.std.specs.Option.{option_map};
+ghost use Rattle.std.specs.Prelude.{◌≡◌, IfOk};
+
+use crate::classes::{FieldType, class_field_type};
+use crate::items::option_named;
+use crate::kinds::{Kind, Reference, TypeForm, kind_of};
+use crate::names::reference_target;
+use crate::places::{Place, Target};
+use crate::scopes::Scope;
+use crate::stopped::Judged;
+use asn_memory::Text;
+use asn_tree::{ChoiceOption, ChoiceSelectionType, ToplevelDefinition};
+use std::alloc::Global;
+
+/// Where a type leads.
+#[derive(Drop)]
+pub enum Lead<'a> {
+    /// It is a head.
+    Head,
+    Target(Target<'a>),
+    /// Its name is missing or of another kind.
+    Lost,
+}
+
+/// Where a name leads that has a target or none.
+fn leading<'a>(target: Option<Target<'a>>) -> Lead<'a>
+    ensures { shown_lead result ≡ leading (option_map shown_target target.entry) }
+{
+    match target {
+        None => Lead::Lost,
+        Some(target) => Lead::Target(target),
+    }
+}
+
+/// Where a class's field leads: an open type is a head.
+fn field_lead<'a>(ty: Option<FieldType<'a>>) -> Lead<'a>
+    ensures { shown_lead result ≡ field_lead (option_map shown_field_type ty.entry) }
+{
+    match ty {
+        None => Lead::Lost,
+        Some(FieldType::Open) => Lead::Head,
+        Some(FieldType::Fixed(ty)) => {
+            let target = Target::outside(ty);
+            Lead::Target(target)
+        }
+    }
+}
+
+/// The options of a CHOICE; of any other head none.
+fn options_of<'a>(head: TypeForm<'a>) -> &'a [ChoiceOption]
+    ensures { result.now ≡ options_in (kind_of_type (shown_type head.entry)) }
+{
+    match kind_of(head) {
+        Kind::Choice(options) => options.as_slice(),
+        Kind::Null => &[],
+        Kind::Boolean => &[],
+        Kind::Integer(_) => &[],
+        Kind::Real => &[],
+        Kind::BitString(_) => &[],
+        Kind::OctetString => &[],
+        Kind::CharacterString(_) => &[],
+        Kind::Time => &[],
+        Kind::Enumerated(_) => &[],
+        Kind::ObjectIdentifier => &[],
+        Kind::Opaque => &[],
+        Kind::Struct(_) => &[],
+        Kind::List(_) => &[],
+        Kind::Field(_) => &[],
+        Kind::Reference(_) => &[],
+        Kind::Selection(_) => &[],
+    }
+}
+
+/// The option of the name under a head that is a CHOICE, with its own constraints (X.680 30.2).
+fn selected<'a>(head: Place<'a>, name: &str) -> Option<Target<'a>>
+    ensures { option_map shown_target result ≡ once None (option_named (options_of (shown_place head.entry)) name.now) (option_target (shown_place head.entry).scope) }
+{
+    let Place { scope, ty } = head;
+    match option_named(options_of(ty), name) {
+        None => None,
+        Some(option) => Some(Target {
+            place: Place {
+                scope,
+                ty: TypeForm::Written(&option.ty),
+            },
+            constraints: Some(&option.constraints),
+        }),
+    }
+}
+
+/// `a < C`: the type of the CHOICE's option with the option's constraints; the CHOICE's own do not come along (X.680 30.2).
+///
+/// Err: want of memory, or as `field_target`.
+#[cycle(heading)]
+#[tactic(auto, using(crate::proofs::Leading::selection_of_none, crate::proofs::Leading::selection_of_head))]
+fn selection_target<'a>(
+    alloc: Global,
+    definitions: &'a [ToplevelDefinition],
+    steps: usize,
+    scope: &Scope<'a>,
+    selection: &'a ChoiceSelectionType,
+) -> Judged<Option<Target<'a>>>
+    ensures { IfOk result (λ target. option_map shown_target target ≡ selection_target (meaning definitions.now steps) (shown scope.now) selection.now) }
+{
+    match head_named(alloc, definitions, steps, scope, &selection.choice_name)? {
+        None => Ok(None),
+        Some(head) => Ok(selected(head, selection.selected_option.as_str())),
+    }
+}
+
+/// Where a type leads: a plain name, an argument list, a selection, a class's field of fixed type and a field of an object
+/// lead on; every other type is a head, an open type too.
+///
+/// Err: want of memory, or as `field_target`.
+#[cycle(heading)]
+pub fn lead_of<'a>(
+    alloc: Global,
+    definitions: &'a [ToplevelDefinition],
+    steps: usize,
+    place: &Place<'a>,
+) -> Judged<Lead<'a>>
+    ensures { IfOk result (λ l. shown_lead l ≡ lead definitions.now (meaning definitions.now steps) (shown_place place.now)) }
+{
+    match kind_of(place.ty) {
+        Kind::Reference(reference) => {
+            let target = reference_target(alloc, definitions, &place.scope, reference)?;
+            Ok(leading(target))
+        }
+        Kind::Selection(selection) => {
+            let target = selection_target(alloc, definitions, steps, &place.scope, selection)?;
+            Ok(leading(target))
+        }
+        Kind::Field(field) => {
+            let ty = class_field_type(definitions, &place.scope, field);
+            Ok(field_lead(ty))
+        }
+        Kind::Null => Ok(Lead::Head),
+        Kind::Boolean => Ok(Lead::Head),
+        Kind::Integer(_) => Ok(Lead::Head),
+        Kind::Real => Ok(Lead::Head),
+        Kind::BitString(_) => Ok(Lead::Head),
+        Kind::OctetString => Ok(Lead::Head),
+        Kind::CharacterString(_) => Ok(Lead::Head),
+        Kind::Time => Ok(Lead::Head),
+        Kind::Enumerated(_) => Ok(Lead::Head),
+        Kind::ObjectIdentifier => Ok(Lead::Head),
+        Kind::Opaque => Ok(Lead::Head),
+        Kind::Struct(_) => Ok(Lead::Head),
+        Kind::List(_) => Ok(Lead::Head),
+        Kind::Choice(_) => Ok(Lead::Head),
+    }
+}
+
+/// The head of a type within a number of steps: the first type on the way that leads nowhere else.
+///
+/// None: the steps do not reach, or a name leads nowhere. Err: want of memory, or as `field_target`.
+#[cycle(heading)]
+#[tactic(auto, using(crate::proofs::Leading::head_at_zero, crate::proofs::Leading::head_is, crate::proofs::Leading::head_beyond, crate::proofs::Leading::head_lost))]
+pub fn head<'a>(
+    alloc: Global,
+    definitions: &'a [ToplevelDefinition],
+    steps: usize,
+    place: &Place<'a>,
+) -> Judged<Option<Place<'a>>>
+    ensures { IfOk result (λ found. option_map shown_place found ≡ (meaning definitions.now steps).head (shown_place place.now)) }
+{
+    if steps == 0 {
+        return Ok(None);
+    }
+    match lead_of(alloc, definitions, steps - 1, place)? {
+        Lead::Head => {
+            let head = place.copy(alloc)?;
+            Ok(Some(head))
+        }
+        Lead::Target(target) => {
+            let found = head(alloc, definitions, steps - 1, &target.place)?;
+            Ok(found)
+        }
+        Lead::Lost => Ok(None),
+    }
+}
+
+/// The head of a type that a name stands for.
+///
+/// Err: want of memory, or as `field_target`.
+#[cycle(heading)]
+pub fn head_named<'a>(
+    alloc: Global,
+    definitions: &'a [ToplevelDefinition],
+    steps: usize,
+    scope: &Scope<'a>,
+    name: &'a Text,
+) -> Judged<Option<Place<'a>>>
+    ensures { IfOk result (λ found. option_map shown_place found ≡ head_named (meaning definitions.now steps) (shown scope.now) name.now) }
+{
+    let scope = scope.copy(alloc)?;
+    let place = Place {
+        scope,
+        ty: TypeForm::Reference(Reference::Named(name)),
+    };
+    let found = head(alloc, definitions, steps, &place)?;
+    Ok(found)
+}

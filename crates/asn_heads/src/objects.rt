@@ -1,0 +1,182 @@
+//! What objects give for the fields of their class (X.681 11).
+
+ghost use Rattle.asn_heads.specs.Objects.{in_own_syntax, shown_given};
+ghost use Rattle.asn_heads.specs.Places.{shown_target};
+ghost use Rattle.asn_heads.specs.Scopes.{shown};
+ghost use Rattle.asn_meaning.specs.Names.{field_target, marked, object_field, type_of_field};
+ghost use Rattle.asn_meaning.specs.Objects.{given};
+ghost use Rattle.asn_notation.specs.Syntax.{given_name};
+ghost use Rattle.asn_tree.specs.declared.objects.InformationObjectField.{out-InformationObjectField};
+ghost use Rattle.asn_tree.specs.declared.objects.InformationObjectFields.{out-InformationObjectFields};
+ghost use Rattle.std.specs.List.{find};
+ghost use Rattle.std.specs.Option.{option_copied, option_map};
+ghost use Rattle.std.specs.Prelude.{◌≡◌, IfOk, OnErr, true};
+ghost use Rattle.std.specs.Str.{bytes_eq};
+
+use crate::definitions::object_named;
+use crate::kinds::TypeForm;
+use crate::places::Target;
+use crate::scopes::Scope;
+use crate::stopped::{Judged, Stopped};
+use crate::values::ValueForm;
+use asn_memory::{Mem, Text};
+use asn_tree::{
+    InformationObject, InformationObjectField, InformationObjectFields, ObjectSet,
+    ToplevelDefinition,
+};
+use std::alloc::Global;
+
+/// What an object gives for a field.
+#[derive(Clone, Copy)]
+pub enum Gives<'a> {
+    Type(TypeForm<'a>),
+    Value(ValueForm<'a>),
+    Set(&'a ObjectSet),
+}
+
+/// A field that an object gives, by its name with its `&`.
+#[derive(Clone, Copy)]
+pub struct GivenField<'a> {
+    pub name: &'a Text,
+    pub gives: Gives<'a>,
+}
+
+/// A field of a tree.
+fn as_given<'a>(field: &'a InformationObjectField) -> GivenField<'a>
+    ensures { shown_given result ≡ field.now }
+{
+    match field {
+        InformationObjectField::TypeField(field) => GivenField {
+            name: &field.identifier,
+            gives: Gives::Type(TypeForm::Written(&field.ty)),
+        },
+        InformationObjectField::FixedValueField(field) => GivenField {
+            name: &field.identifier,
+            gives: Gives::Value(ValueForm::Written(&field.value)),
+        },
+        InformationObjectField::ObjectSetField(field) => GivenField {
+            name: &field.identifier,
+            gives: Gives::Set(&field.value),
+        },
+    }
+}
+
+/// The name of a field of a tree with its `&`.
+fn name_of_given(field: &InformationObjectField) -> &Text
+    ensures { result.now ≡ given_name field.now }
+{
+    match field {
+        InformationObjectField::TypeField(field) => &field.identifier,
+        InformationObjectField::FixedValueField(field) => &field.identifier,
+        InformationObjectField::ObjectSetField(field) => &field.identifier,
+    }
+}
+
+/// The first field of the name.
+#[tactic(auto, using(crate::proofs::Giving::given_first))]
+fn find_given<'a>(
+    fields: &'a [InformationObjectField],
+    name: &str,
+) -> Option<&'a InformationObjectField>
+    ensures { option_copied result ≡ find (λ f. bytes_eq (given_name f) name.now) fields.now }
+{
+    for field in fields {
+        if name_of_given(field).as_str() == name {
+            return Some(field);
+        }
+    }
+    None
+}
+
+/// The field that an object gives by this name with its `&` (X.681 11.4).
+///
+/// Err: `OwnSyntax`, for an object in its class's own syntax (X.681 11.6) and for no other.
+#[tactic(auto, using(crate::proofs::Giving::given_default))]
+pub fn given<'a>(
+    definitions: &'a [ToplevelDefinition],
+    object: &'a InformationObject,
+    name: &str,
+) -> Judged<Option<GivenField<'a>>>
+    ensures ok { IfOk result (λ field. option_map shown_given field ≡ given definitions.now object.now name.now) }
+    ensures err { OnErr result (in_own_syntax (out-InformationObjectFields object.now.fields) ≡ true) }
+{
+    match &object.fields {
+        InformationObjectFields::DefaultSyntax(fields) => {
+            match find_given(fields.as_slice(), name) {
+                None => Ok(None),
+                Some(field) => Ok(Some(as_given(field))),
+            }
+        }
+        InformationObjectFields::CustomSyntax(_) => Err(Stopped::OwnSyntax),
+    }
+}
+
+/// The field's name with its `&`.
+///
+/// Err: want of memory.
+fn marked(alloc: Global, name: &str) -> Mem<Text>
+    ensures { IfOk result (λ text. text ≡ marked name.now) }
+{
+    let mut text = Text::new(alloc, "&")?;
+    text.push_str(name)?;
+    Ok(text)
+}
+
+/// The field that an object gives, by the field's name without its `&`; a dummy is no object.
+///
+/// Err: want of memory, or as `given`.
+#[tactic(auto, using(crate::proofs::Giving::field_of_dummy, crate::proofs::Giving::field_of_none, crate::proofs::Giving::field_of_object))]
+pub fn object_field<'a>(
+    alloc: Global,
+    definitions: &'a [ToplevelDefinition],
+    scope: &Scope<'a>,
+    name: &str,
+    field: &str,
+) -> Judged<Option<GivenField<'a>>>
+    ensures { IfOk result (λ given. option_map shown_given given ≡ object_field definitions.now (shown scope.now) name.now field.now) }
+{
+    if scope.bound_to(name).is_some() {
+        return Ok(None);
+    }
+    match object_named(definitions, name) {
+        None => Ok(None),
+        Some(object) => {
+            let marked = marked(alloc, field)?;
+            let found = given(definitions, object, marked.as_str())?;
+            Ok(found)
+        }
+    }
+}
+
+/// The type that is given, where a type is.
+fn type_of_field<'a>(given: GivenField<'a>) -> Option<Target<'a>>
+    ensures { option_map shown_target result ≡ type_of_field (out-InformationObjectField (shown_given given.entry)) }
+{
+    match given.gives {
+        Gives::Type(ty) => {
+            let target = Target::outside(ty);
+            Some(target)
+        }
+        Gives::Value(_) => None,
+        Gives::Set(_) => None,
+    }
+}
+
+/// `o.&T`: the type that the object gives (X.681 15.1).
+///
+/// Err: want of memory, or as `given`.
+#[tactic(auto, using(crate::proofs::Giving::target_of_none, crate::proofs::Giving::target_of_some))]
+pub fn field_target<'a>(
+    alloc: Global,
+    definitions: &'a [ToplevelDefinition],
+    scope: &Scope<'a>,
+    name: &str,
+    field: &str,
+) -> Judged<Option<Target<'a>>>
+    ensures { IfOk result (λ target. option_map shown_target target ≡ field_target definitions.now (shown scope.now) name.now field.now) }
+{
+    match object_field(alloc, definitions, scope, name, field)? {
+        None => Ok(None),
+        Some(given) => Ok(type_of_field(given)),
+    }
+}
