@@ -7,4 +7,5 @@ pub mod Integers
 pub mod Laws
 pub mod LentTypes
 pub mod Members
+pub mod Types
 pub mod Values

@@ -1,6 +1,6 @@
 //! Types that a word names.
 
-ghost use Rattle.asn_notation.specs.Types.{builtin, elsewhere};
+ghost use Rattle.asn_calls.specs.Types.{builtin, elsewhere};
 ghost use Rattle.std.specs.Option.{option_copied};
 ghost use Rattle.std.specs.Prelude.{◌≡◌, IfErr, IfOk, None, Some};
 
@@ -13,7 +13,7 @@ use asn_tree::{
 use std::alloc::Global;
 
 /// The built-in type of this word with the constraints, or these back where the word names none.
-#[tactic(auto, unfolding(asn_notation::specs::Types::builtin))]
+#[tactic(auto, unfolding(crate::specs::Types::builtin))]
 pub(crate) fn builtin(
     word: &str,
     constraints: List<Constraint>,

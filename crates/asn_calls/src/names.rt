@@ -1,6 +1,6 @@
 //! What types are called.
 
-ghost use Rattle.asn_notation.specs.Types.{field_type_name, name_of, selection_name, words_of};
+ghost use Rattle.asn_calls.specs.Types.{field_type_name, name_of, selection_name, words_of};
 ghost use Rattle.std.specs.Option.{option_map};
 ghost use Rattle.std.specs.Prelude.{◌≡◌, IfOk};
 

@@ -1,7 +1,7 @@
 //! Calls on types.
 
-ghost use Rattle.asn_notation.specs.Types.{builtin_named, constraints_of, elsewhere, is_builtin, is_const, type_name, with_constraints};
 ghost use Rattle.asn_calls.specs.LentTypes.{constraints_row};
+ghost use Rattle.asn_calls.specs.Types.{builtin_named, constraints_held, elsewhere, is_builtin, is_const, type_name, with_constraints};
 ghost use Rattle.asn_same.specs.Making.{listed};
 ghost use Rattle.asn_tree.specs.contracts.types.ASN1Type.{the_row};
 ghost use Rattle.std.specs.Borrow.{LendsIf, sem};
@@ -45,6 +45,7 @@ pub trait ASN1TypeCalls: Sized {
 }
 
 impl ASN1TypeCalls for ASN1Type {
+    #[tactic(auto, unfolding(crate::specs::Types::type_name))]
     fn as_str(&self, alloc: Global) -> Mem<Text>
         ensures { IfOk result (λ text. text ≡ type_name self.now) }
     {
@@ -73,6 +74,7 @@ impl ASN1TypeCalls for ASN1Type {
         }
     }
 
+    #[tactic(auto, unfolding(crate::specs::Types::is_builtin))]
     fn is_builtin_type(&self) -> bool
         ensures { result ≡ is_builtin self.now }
     {
@@ -84,6 +86,7 @@ impl ASN1TypeCalls for ASN1Type {
         )
     }
 
+    #[tactic(auto, unfolding(crate::specs::Types::is_const))]
     fn is_const_type(&self) -> bool
         ensures { result ≡ is_const self.now }
     {
@@ -97,8 +100,9 @@ impl ASN1TypeCalls for ASN1Type {
         )
     }
 
+    #[tactic(auto, unfolding(crate::specs::Types::constraints_held))]
     fn constraints(&self) -> Option<&List<Constraint>>
-        ensures { option_copied result ≡ constraints_of self.now }
+        ensures { option_copied result ≡ constraints_held self.now }
     {
         match self {
             ASN1Type::Boolean(ty) => Some(&ty.constraints),
@@ -124,9 +128,10 @@ impl ASN1TypeCalls for ASN1Type {
         }
     }
 
+    #[tactic(auto, unfolding(crate::specs::Types::constraints_held, crate::specs::Types::with_constraints))]
     fn constraints_mut(&mut self) -> Option<&mut List<Constraint>>
         ensures* writes_back { sem 𝓛 (LendsIf the_row constraints_row self.entry result (with_constraints self.entry.now) self.entry.now) }
-        ensures value { option_map (λ cs. cs.now) result ≡ constraints_of self.old }
+        ensures value { option_map (λ cs. cs.now) result ≡ constraints_held self.old }
     {
         match self {
             ASN1Type::Boolean(ty) => Some(&mut ty.constraints),
