@@ -3,4 +3,5 @@ pub mod BareNumbers
 pub mod Equations
 pub mod Octets
 pub mod Views
+pub mod Quotes
 pub mod ExactReadings

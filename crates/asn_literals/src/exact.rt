@@ -1,6 +1,6 @@
 //! Laws: what is read of a text of characters is its bytes.
 
-ghost use Rattle.asn_literals.specs.Exact.{NamesAreExact, TimesAreExact};
+ghost use Rattle.asn_literals.specs.Exact.{NamesAreExact, QuotedBytesAreExact, QuotedCharactersAreExact, TimesAreExact};
 
 use asn_rules::children_at_characters;
 
@@ -14,6 +14,15 @@ pub fn names_are_exact()
 /// A time that begins between two characters is its bytes: none is replaced.
 pub fn times_are_exact()
     ensures { TimesAreExact }
+{
+    children_at_characters();
+}
+
+/// A text in quotes that begins between two characters is what stands between its quotes with each doubled quote made
+/// single (X.680 12.14): no byte is replaced, and no character.
+pub fn quoted_are_exact()
+    ensures bytes { QuotedBytesAreExact }
+    ensures characters { QuotedCharactersAreExact }
 {
     children_at_characters();
 }
