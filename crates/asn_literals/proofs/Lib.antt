@@ -4,4 +4,5 @@ pub mod Equations
 pub mod Octets
 pub mod Views
 pub mod Quotes
+pub mod Blanks
 pub mod ExactReadings

@@ -1,10 +1,13 @@
--- In a text of characters nothing that is read is replaced.
-use Rattle.std.specs.Prelude.{◌≡◌, ℕ, List, Some, encode_utf8_all}
+-- In a text of characters nothing that is read is replaced, and blanks and comments are what the bytes tell.
+use Rattle.std.specs.Prelude.{◌≡◌, ℕ, List, Some, drop, encode_utf8_all}
 use Rattle.std.specs.Str.{IsUtf8, IsCharBoundary, chars}
 use Rattle.asn_rules.specs.Children.{StandsBy}
+use Rattle.asn_rules.specs.Expression.{rule}
 use Rattle.asn_rules.specs.Nodes.{child_of, the}
+use Rattle.asn_rules.specs.Runs.{Runs, ends}
+use Rattle.asn_rules.specs.Sizes.{outside}
 use Rattle.asn_rules.specs.Whole.{whole_rules}
-use Rattle.asn_rules.specs.declared.names.TheConstants.{QUOTED_BODY, TIME_CHARS}
+use Rattle.asn_rules.specs.declared.names.TheConstants.{QUOTED_BODY, SP, TIME_CHARS}
 use Rattle.asn_rules.specs.declared.node.Node.{Node}
 use Rattle.asn_rules.specs.declared.node.Node.TheViews.{out-Node}
 use Rattle.asn_literals.specs.Parts.{behind_blanks, name_of, taken}
@@ -25,3 +28,7 @@ QuotedBytesAreExact = (text : List ℕ) (n : Node) → IsUtf8 text → StandsBy 
 -- and so the characters between its quotes with each doubled quote made single
 abbrev pub QuotedCharactersAreExact : Type 0
 QuotedCharactersAreExact = (text : List ℕ) (n : Node) → IsUtf8 text → StandsBy whole_rules text n → IsCharBoundary text (out-Node n).start → quoted_of text n ≡ the (child_of n QUOTED_BODY) (λ body. Some (encode_utf8_all (single (chars (taken text body)))))
+
+-- the blanks and comments that their rule takes are those that the bytes tell
+abbrev pub BlanksAreThoseOfBytes : Type 0
+BlanksAreThoseOfBytes = (text : List ℕ) (i j h : ℕ) → Runs whole_rules text (rule SP) i (ends j) h → outside (drop i text) ≡ outside (drop j text)
