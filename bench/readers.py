@@ -3,14 +3,14 @@
 
 PROGRAM is the test program of asn_value_tests, as 'rt test' in crates/asn_value_tests leaves it; with none it is
 crates/asn_value_tests/out/asn_value_tests. Its tests `large::KIND_read` and `large::KIND_tried` make a text of that kind
-of a million bytes or some more, and take it whole. Making the text is part of the time. The best of five runs counts;
-nothing is asserted here.
+of a million bytes or some more, and take it whole. Making the text is part of the time. Times are processor seconds, which
+other work on the machine changes little, and the best of five runs counts; nothing is asserted here.
 """
 
 import os
+import resource
 import subprocess
 import sys
-import time
 
 KINDS = ("bits", "octets", "characters", "arcs", "members", "items")
 RUNS = 5
@@ -18,13 +18,19 @@ HERE = os.path.dirname(os.path.abspath(__file__))
 PROGRAM = os.path.join(HERE, "..", "crates", "asn_value_tests", "out", "asn_value_tests")
 
 
+def seconds_used():
+    """The processor seconds of all programs that were run so far."""
+    used = resource.getrusage(resource.RUSAGE_CHILDREN)
+    return used.ru_utime + used.ru_stime
+
+
 def seconds_of(program, name):
-    """The best time of a test that is run by itself; None where it does not pass."""
+    """The best processor time of a test that is run by itself; None where it does not pass."""
     best = None
     for _ in range(RUNS):
-        start = time.perf_counter()
+        start = seconds_used()
         status = subprocess.run([program, name], stdout=subprocess.DEVNULL, check=False).returncode
-        seconds = time.perf_counter() - start
+        seconds = seconds_used() - start
         if status != 0:
             return None
         best = seconds if best is None else min(best, seconds)

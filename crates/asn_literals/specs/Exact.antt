@@ -1,14 +1,17 @@
--- In a text of characters nothing that is read is replaced.
-use Rattle.std.specs.Prelude.{◌≡◌, ℕ, List, Some}
-use Rattle.std.specs.Str.{IsUtf8, IsCharBoundary}
+-- In a text of characters nothing that is read is replaced, and blanks and comments are what the bytes tell.
+use Rattle.std.specs.Prelude.{◌≡◌, ℕ, List, Some, drop, encode_utf8_all}
+use Rattle.std.specs.Str.{IsUtf8, IsCharBoundary, chars}
 use Rattle.asn_rules.specs.Children.{StandsBy}
+use Rattle.asn_rules.specs.Expression.{rule}
 use Rattle.asn_rules.specs.Nodes.{child_of, the}
+use Rattle.asn_rules.specs.Runs.{Runs, ends}
+use Rattle.asn_rules.specs.Sizes.{outside}
 use Rattle.asn_rules.specs.Whole.{whole_rules}
-use Rattle.asn_rules.specs.declared.names.TheConstants.{TIME_CHARS}
+use Rattle.asn_rules.specs.declared.names.TheConstants.{QUOTED_BODY, SP, TIME_CHARS}
 use Rattle.asn_rules.specs.declared.node.Node.{Node}
 use Rattle.asn_rules.specs.declared.node.Node.TheViews.{out-Node}
 use Rattle.asn_literals.specs.Parts.{behind_blanks, name_of, taken}
-use Rattle.asn_literals.specs.Strings.{time_of}
+use Rattle.asn_literals.specs.Strings.{quoted_of, single, time_of}
 
 -- a name that begins and ends between two characters is the bytes of its node behind the blanks
 abbrev pub NamesAreExact : Type 0
@@ -17,3 +20,15 @@ NamesAreExact = (text : List ℕ) (n : Node) → IsUtf8 text → StandsBy whole_
 -- a time is the bytes between its quotes
 abbrev pub TimesAreExact : Type 0
 TimesAreExact = (text : List ℕ) (n : Node) → IsUtf8 text → StandsBy whole_rules text n → IsCharBoundary text (out-Node n).start → time_of text n ≡ the (child_of n TIME_CHARS) (λ chars. Some (taken text chars))
+
+-- a text in quotes is the bytes between its quotes with each doubled quote made single
+abbrev pub QuotedBytesAreExact : Type 0
+QuotedBytesAreExact = (text : List ℕ) (n : Node) → IsUtf8 text → StandsBy whole_rules text n → IsCharBoundary text (out-Node n).start → quoted_of text n ≡ the (child_of n QUOTED_BODY) (λ body. Some (single (taken text body)))
+
+-- and so the characters between its quotes with each doubled quote made single
+abbrev pub QuotedCharactersAreExact : Type 0
+QuotedCharactersAreExact = (text : List ℕ) (n : Node) → IsUtf8 text → StandsBy whole_rules text n → IsCharBoundary text (out-Node n).start → quoted_of text n ≡ the (child_of n QUOTED_BODY) (λ body. Some (encode_utf8_all (single (chars (taken text body)))))
+
+-- the blanks and comments that their rule takes are those that the bytes tell
+abbrev pub BlanksAreThoseOfBytes : Type 0
+BlanksAreThoseOfBytes = (text : List ℕ) (i j h : ℕ) → Runs whole_rules text (rule SP) i (ends j) h → outside (drop i text) ≡ outside (drop j text)

@@ -1,6 +1,6 @@
-//! Laws: what is read of a text of characters is its bytes.
+//! Laws: what is read of a text of characters is its bytes, and blanks and comments are what the bytes tell.
 
-ghost use Rattle.asn_literals.specs.Exact.{NamesAreExact, TimesAreExact};
+ghost use Rattle.asn_literals.specs.Exact.{BlanksAreThoseOfBytes, NamesAreExact, QuotedBytesAreExact, QuotedCharactersAreExact, TimesAreExact};
 
 use asn_rules::children_at_characters;
 
@@ -17,3 +17,18 @@ pub fn times_are_exact()
 {
     children_at_characters();
 }
+
+/// A text in quotes that begins between two characters is what stands between its quotes with each doubled quote made
+/// single (X.680 12.14): no byte is replaced, and no character.
+pub fn quoted_are_exact()
+    ensures bytes { QuotedBytesAreExact }
+    ensures characters { QuotedCharactersAreExact }
+{
+    children_at_characters();
+}
+
+/// The blanks and comments that their rule takes are those that the bytes tell (X.680 12.1.6 and 12.6): `next_bare` finds the
+/// same before them as behind them.
+pub fn blanks_are_those_of_bytes()
+    ensures { BlanksAreThoseOfBytes }
+{}

@@ -19,7 +19,7 @@ mod truths;
 
 pub use bits::{read_binary, read_hexadecimal, read_named_bits};
 pub use entry::read_node;
-pub use exact::{names_are_exact, times_are_exact};
+pub use exact::{blanks_are_those_of_bytes, names_are_exact, quoted_are_exact, times_are_exact};
 pub use identifiers::read_object_identifier;
 pub use names::{children, read_name};
 pub use numbers::{read_i32, read_i128, read_integer, read_u64, read_u128};

@@ -21,5 +21,6 @@ pub mod Right
 pub mod Children
 pub mod NodeEnds
 pub mod CleanRows
+pub mod Rows
 pub mod Asked
 pub mod AskedFirst

@@ -3,6 +3,10 @@
 //! The words of a row are explained in `lexical_rules.rt`; `'X'` skips blanks and comments, and then stands as a whole
 //! word, and `words(A, B)` is one of these words behind blanks and comments. `whole.rt` alone calls this file.
 
+ghost use Rattle.std.specs.Prelude.{◌≡◌, ◌≤◌, ◌-◌, List};
+ghost use Rattle.asn_rules.specs.Expression.{Expression as Row, expression, rule_of};
+ghost use Rattle.asn_rules.specs.DefinitionRules.{definition_rules_before};
+
 use crate::expression::Expression;
 use crate::expression::Expression::{Call, Many, Not};
 use crate::forms::{ANY, BLANKS, EMPTY, choice, option, seq, some};
@@ -16,7 +20,7 @@ use crate::names::{
 };
 
 // 181 top_level_information_object_declaration = comments identifier parameterization? class_name assignment information_object
-pub(crate) static RULE_181: Expression = seq!(
+static RULE_181: Expression = seq!(
     Call(COMMENTS),
     Call(IDENTIFIER),
     option!(Call(PARAMETERIZATION)),
@@ -25,7 +29,7 @@ pub(crate) static RULE_181: Expression = seq!(
     Call(INFORMATION_OBJECT)
 );
 // 182 top_level_object_set_declaration = comments identifier parameterization? class_name assignment object_set
-pub(crate) static RULE_182: Expression = seq!(
+static RULE_182: Expression = seq!(
     Call(COMMENTS),
     Call(IDENTIFIER),
     option!(Call(PARAMETERIZATION)),
@@ -34,7 +38,7 @@ pub(crate) static RULE_182: Expression = seq!(
     Call(OBJECT_SET)
 );
 // 183 top_level_object_class_declaration = comments uppercase_identifier parameterization? assignment (type_identifier / information_object_class)
-pub(crate) static RULE_183: Expression = seq!(
+static RULE_183: Expression = seq!(
     Call(COMMENTS),
     Call(UPPERCASE_IDENTIFIER),
     option!(Call(PARAMETERIZATION)),
@@ -42,13 +46,13 @@ pub(crate) static RULE_183: Expression = seq!(
     choice!(Call(TYPE_IDENTIFIER), Call(INFORMATION_OBJECT_CLASS))
 );
 // 184 top_level_information_declaration = top_level_information_object_declaration / top_level_object_set_declaration / top_level_object_class_declaration
-pub(crate) static RULE_184: Expression = choice!(
+static RULE_184: Expression = choice!(
     Call(TOP_LEVEL_INFORMATION_OBJECT_DECLARATION),
     Call(TOP_LEVEL_OBJECT_SET_DECLARATION),
     Call(TOP_LEVEL_OBJECT_CLASS_DECLARATION)
 );
 // 185 top_level_type_declaration = comments title_case_identifier parameterization? assignment asn_tag? asn1_type
-pub(crate) static RULE_185: Expression = seq!(
+static RULE_185: Expression = seq!(
     Call(COMMENTS),
     Call(TITLE_CASE_IDENTIFIER),
     option!(Call(PARAMETERIZATION)),
@@ -57,7 +61,7 @@ pub(crate) static RULE_185: Expression = seq!(
     Call(ASN1_TYPE)
 );
 // 186 enumerated_value = comments value_identifier parameterization? asn1_type assignment value_identifier
-pub(crate) static RULE_186: Expression = seq!(
+static RULE_186: Expression = seq!(
     Call(COMMENTS),
     Call(VALUE_IDENTIFIER),
     option!(Call(PARAMETERIZATION)),
@@ -66,7 +70,7 @@ pub(crate) static RULE_186: Expression = seq!(
     Call(VALUE_IDENTIFIER)
 );
 // 187 top_level_value_declaration = comments value_identifier parameterization? asn1_type assignment asn1_value / enumerated_value
-pub(crate) static RULE_187: Expression = choice!(
+static RULE_187: Expression = choice!(
     seq!(
         Call(COMMENTS),
         Call(VALUE_IDENTIFIER),
@@ -78,16 +82,34 @@ pub(crate) static RULE_187: Expression = choice!(
     Call(ENUMERATED_VALUE)
 );
 // 188 definition = top_level_information_declaration / top_level_type_declaration / top_level_value_declaration
-pub(crate) static RULE_188: Expression = choice!(
+static RULE_188: Expression = choice!(
     Call(TOP_LEVEL_INFORMATION_DECLARATION),
     Call(TOP_LEVEL_TYPE_DECLARATION),
     Call(TOP_LEVEL_VALUE_DECLARATION)
 );
 // 189 asn_module = module_reference definition* end
-pub(crate) static RULE_189: Expression = seq!(
-    Call(MODULE_REFERENCE),
-    Many(&Call(DEFINITION)),
-    Call(END)
-);
+static RULE_189: Expression = seq!(Call(MODULE_REFERENCE), Many(&Call(DEFINITION)), Call(END));
 // 190 asn_spec = asn_module+ sp !any
-pub(crate) static RULE_190: Expression = seq!(some!(Call(ASN_MODULE)), BLANKS, Not(&ANY));
+static RULE_190: Expression = seq!(some!(Call(ASN_MODULE)), BLANKS, Not(&ANY));
+
+// The row of one of these rules.
+#[tactic(auto, unfolding(crate::specs::DefinitionRules::definition_rules_before))]
+pub(crate) fn definition_row(rule: u8) -> &'static Expression
+    requires first { 181 ≤ rule }
+    requires last { rule ≤ 190 }
+    ensures { (further : List Row) → expression result.now ≡ rule_of (definition_rules_before further) (rule - 181) }
+{
+    match rule {
+        181 => &RULE_181,
+        182 => &RULE_182,
+        183 => &RULE_183,
+        184 => &RULE_184,
+        185 => &RULE_185,
+        186 => &RULE_186,
+        187 => &RULE_187,
+        188 => &RULE_188,
+        189 => &RULE_189,
+        190 => &RULE_190,
+        0..=180 | 191..=255 => unreachable!(),
+    }
+}

@@ -20,6 +20,7 @@ pub enum Grammar {
 }
 
 /// The expression of a rule in the grammar; of a number that is no rule's, one that fails everywhere.
+#[tactic(auto, using(crate::proofs::Rows::first_light, crate::proofs::Rows::whole_light))]
 pub fn rule_expression(grammar: Grammar, rule: u8) -> &'static Expression
     ensures value { expression result.now ≡ rule_of (rules_of grammar) rule }
     ensures weight { weight (expression result.now) ≤ 999 }

@@ -3,6 +3,10 @@
 //! The words of a row are explained in `lexical_rules.rt`; `'X'` skips blanks and comments, and then stands as a whole
 //! word, and `words(A, B)` is one of these words behind blanks and comments. `whole.rt` alone calls this file.
 
+ghost use Rattle.std.specs.Prelude.{◌≡◌, ◌≤◌, ◌-◌, List};
+ghost use Rattle.asn_rules.specs.Expression.{Expression as Row, expression, rule_of};
+ghost use Rattle.asn_rules.specs.HeaderRules.{header_rules_before};
+
 use crate::expression::Expression::{Call, Guarded, Many, Not};
 use crate::expression::{Expression, Guard, Sight};
 use crate::forms::{
@@ -18,26 +22,15 @@ use crate::names::{
 };
 
 // 162 iri_labels = (alnum / one of -_~./)+ {no empty label between slashes}
-pub(crate) static RULE_162: Expression = Guarded(
-    &some!(choice!(ALNUM, LABEL_MARK)),
-    Guard::HasLabels,
-);
+static RULE_162: Expression = Guarded(&some!(choice!(ALNUM, LABEL_MARK)), Guard::HasLabels);
 // 163 iri_value = sp `"/` iri_labels `"`
-pub(crate) static RULE_163: Expression = seq!(
-    BLANKS,
-    bytes!(b"\"/"),
-    Call(IRI_LABELS),
-    bytes!(b"\"")
-);
+static RULE_163: Expression = seq!(BLANKS, bytes!(b"\"/"), Call(IRI_LABELS), bytes!(b"\""));
 // 164 definitive = object_identifier_value iri_value?
-pub(crate) static RULE_164: Expression = seq!(
-    Call(OBJECT_IDENTIFIER_VALUE),
-    option!(Call(IRI_VALUE))
-);
+static RULE_164: Expression = seq!(Call(OBJECT_IDENTIFIER_VALUE), option!(Call(IRI_VALUE)));
 // 165 encoding_reference = identifier 'INSTRUCTIONS'
-pub(crate) static RULE_165: Expression = seq!(Call(IDENTIFIER), keyword!(b"INSTRUCTIONS"));
+static RULE_165: Expression = seq!(Call(IDENTIFIER), keyword!(b"INSTRUCTIONS"));
 // 166 tag_default = words(AUTOMATIC, IMPLICIT, EXPLICIT) 'TAGS'
-pub(crate) static RULE_166: Expression = seq!(
+static RULE_166: Expression = seq!(
     words!(
         (Automatic, b"AUTOMATIC"),
         (Implicit, b"IMPLICIT"),
@@ -46,7 +39,7 @@ pub(crate) static RULE_166: Expression = seq!(
     keyword!(b"TAGS")
 );
 // 167 environments = encoding_reference? tag_default? ('EXTENSIBILITY' 'IMPLIED')?
-pub(crate) static RULE_167: Expression = seq!(
+static RULE_167: Expression = seq!(
     option!(Call(ENCODING_REFERENCE)),
     option!(Call(TAG_DEFAULT)),
     option!(seq!(
@@ -55,25 +48,25 @@ pub(crate) static RULE_167: Expression = seq!(
     ))
 );
 // 168 imported_symbol = identifier "{" "}" / identifier
-pub(crate) static RULE_168: Expression = choice!(
+static RULE_168: Expression = choice!(
     seq!(Call(IDENTIFIER), symbol!(b"{"), symbol!(b"}")),
     Call(IDENTIFIER)
 );
 // 169 symbol_list = imported_symbol ("," imported_symbol)*
-pub(crate) static RULE_169: Expression = seq!(
+static RULE_169: Expression = seq!(
     Call(IMPORTED_SYMBOL),
     Many(&seq!(symbol!(b","), Call(IMPORTED_SYMBOL)))
 );
 // 170 exports = 'EXPORTS' ('ALL' / symbol_list)? ";"
-pub(crate) static RULE_170: Expression = seq!(
+static RULE_170: Expression = seq!(
     keyword!(b"EXPORTS"),
     option!(choice!(keyword_as!(All, b"ALL"), Call(SYMBOL_LIST))),
     symbol!(b";")
 );
 // 171 follow = 'FROM' / ","
-pub(crate) static RULE_171: Expression = choice!(keyword!(b"FROM"), symbol!(b","));
+static RULE_171: Expression = choice!(keyword!(b"FROM"), symbol!(b","));
 // 172 assigned_identifier = object_identifier_value / identifier "." value_identifier / value_identifier sp brace_group !follow / value_identifier !follow / !follow
-pub(crate) static RULE_172: Expression = choice!(
+static RULE_172: Expression = choice!(
     Call(OBJECT_IDENTIFIER_VALUE),
     seq!(Call(IDENTIFIER), symbol!(b"."), Call(VALUE_IDENTIFIER)),
     seq!(
@@ -86,9 +79,9 @@ pub(crate) static RULE_172: Expression = choice!(
     Not(&Call(FOLLOW))
 );
 // 173 global_module_reference = identifier assigned_identifier
-pub(crate) static RULE_173: Expression = seq!(Call(IDENTIFIER), Call(ASSIGNED_IDENTIFIER));
+static RULE_173: Expression = seq!(Call(IDENTIFIER), Call(ASSIGNED_IDENTIFIER));
 // 174 import = symbol_list 'FROM' global_module_reference ('WITH' words(SUCCESSORS, DESCENDANTS))?
-pub(crate) static RULE_174: Expression = seq!(
+static RULE_174: Expression = seq!(
     Call(SYMBOL_LIST),
     keyword!(b"FROM"),
     Call(GLOBAL_MODULE_REFERENCE),
@@ -98,13 +91,9 @@ pub(crate) static RULE_174: Expression = seq!(
     ))
 );
 // 175 imports = 'IMPORTS' import* ";"
-pub(crate) static RULE_175: Expression = seq!(
-    keyword!(b"IMPORTS"),
-    Many(&Call(IMPORT)),
-    symbol!(b";")
-);
+static RULE_175: Expression = seq!(keyword!(b"IMPORTS"), Many(&Call(IMPORT)), symbol!(b";"));
 // 176 module_reference = identifier definitive? 'DEFINITIONS' environments assignment 'BEGIN' exports? imports?
-pub(crate) static RULE_176: Expression = seq!(
+static RULE_176: Expression = seq!(
     Call(IDENTIFIER),
     option!(Call(DEFINITIVE)),
     keyword!(b"DEFINITIONS"),
@@ -115,17 +104,48 @@ pub(crate) static RULE_176: Expression = seq!(
     option!(Call(IMPORTS))
 );
 // 177 encoding_text = (!'END' (letter name_tail / any))*
-pub(crate) static RULE_177: Expression = Many(&seq!(
+static RULE_177: Expression = Many(&seq!(
     Not(&keyword!(b"END")),
     choice!(seq!(LETTER, Call(NAME_TAIL)), ANY)
 ));
 // 178 encoding_control = 'ENCODING-CONTROL' encoding_text 'END'
-pub(crate) static RULE_178: Expression = seq!(
+static RULE_178: Expression = seq!(
     keyword!(b"ENCODING-CONTROL"),
     Call(ENCODING_TEXT),
     keyword!(b"END")
 );
 // 179 end = 'END' / encoding_control
-pub(crate) static RULE_179: Expression = choice!(keyword!(b"END"), Call(ENCODING_CONTROL));
+static RULE_179: Expression = choice!(keyword!(b"END"), Call(ENCODING_CONTROL));
 // 180 comments = item_comment*
-pub(crate) static RULE_180: Expression = Many(&Call(ITEM_COMMENT));
+static RULE_180: Expression = Many(&Call(ITEM_COMMENT));
+
+// The row of one of these rules.
+#[tactic(auto, unfolding(crate::specs::HeaderRules::header_rules_before))]
+pub(crate) fn header_row(rule: u8) -> &'static Expression
+    requires first { 162 ≤ rule }
+    requires last { rule ≤ 180 }
+    ensures { (further : List Row) → expression result.now ≡ rule_of (header_rules_before further) (rule - 162) }
+{
+    match rule {
+        162 => &RULE_162,
+        163 => &RULE_163,
+        164 => &RULE_164,
+        165 => &RULE_165,
+        166 => &RULE_166,
+        167 => &RULE_167,
+        168 => &RULE_168,
+        169 => &RULE_169,
+        170 => &RULE_170,
+        171 => &RULE_171,
+        172 => &RULE_172,
+        173 => &RULE_173,
+        174 => &RULE_174,
+        175 => &RULE_175,
+        176 => &RULE_176,
+        177 => &RULE_177,
+        178 => &RULE_178,
+        179 => &RULE_179,
+        180 => &RULE_180,
+        0..=161 | 181..=255 => unreachable!(),
+    }
+}

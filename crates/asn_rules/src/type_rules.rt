@@ -3,6 +3,10 @@
 //! The words of a row are explained in `lexical_rules.rt`; `'X'` skips blanks and comments, and then stands as a whole
 //! word, and `words(A, B)` is one of these words behind blanks and comments. `whole.rt` alone calls this file.
 
+ghost use Rattle.std.specs.Prelude.{◌≡◌, ◌≤◌, ◌-◌, List};
+ghost use Rattle.asn_rules.specs.Expression.{Expression as Row, expression, rule_of};
+ghost use Rattle.asn_rules.specs.TypeRules.{type_rules_before};
+
 use crate::expression::Expression::{Call, Guarded, Many};
 use crate::expression::{Expression, Guard, Sight};
 use crate::forms::{
@@ -23,15 +27,15 @@ use crate::names::{
 };
 
 // 54 null = 'NULL'
-pub(crate) static RULE_54: Expression = keyword!(b"NULL");
+static RULE_54: Expression = keyword!(b"NULL");
 // 55 selection_type_choice = value_identifier "<" title_case_identifier
-pub(crate) static RULE_55: Expression = seq!(
+static RULE_55: Expression = seq!(
     Call(VALUE_IDENTIFIER),
     symbol!(b"<"),
     Call(TITLE_CASE_IDENTIFIER)
 );
 // 56 object_identifier = ('OBJECT' 'IDENTIFIER' / 'RELATIVE-OID') constraint?
-pub(crate) static RULE_56: Expression = seq!(
+static RULE_56: Expression = seq!(
     choice!(
         seq!(keyword!(b"OBJECT"), keyword!(b"IDENTIFIER")),
         keyword!(b"RELATIVE-OID")
@@ -39,38 +43,38 @@ pub(crate) static RULE_56: Expression = seq!(
     option!(Call(CONSTRAINT))
 );
 // 57 element = value_identifier asn1_type / asn1_type
-pub(crate) static RULE_57: Expression = choice!(
+static RULE_57: Expression = choice!(
     seq!(Call(VALUE_IDENTIFIER), Call(ASN1_TYPE)),
     Call(ASN1_TYPE)
 );
 // 58 sequence_of = 'SEQUENCE' constraint? 'OF' element
-pub(crate) static RULE_58: Expression = seq!(
+static RULE_58: Expression = seq!(
     keyword!(b"SEQUENCE"),
     option!(Call(CONSTRAINT)),
     keyword!(b"OF"),
     Call(ELEMENT)
 );
 // 59 set_of = 'SET' constraint? 'OF' element
-pub(crate) static RULE_59: Expression = seq!(
+static RULE_59: Expression = seq!(
     keyword!(b"SET"),
     option!(Call(CONSTRAINT)),
     keyword!(b"OF"),
     Call(ELEMENT)
 );
 // 60 sequence = 'SEQUENCE' struct_body constraint?
-pub(crate) static RULE_60: Expression = seq!(
+static RULE_60: Expression = seq!(
     keyword!(b"SEQUENCE"),
     Call(STRUCT_BODY),
     option!(Call(CONSTRAINT))
 );
 // 61 set = 'SET' struct_body constraint?
-pub(crate) static RULE_61: Expression = seq!(
+static RULE_61: Expression = seq!(
     keyword!(b"SET"),
     Call(STRUCT_BODY),
     option!(Call(CONSTRAINT))
 );
 // 62 struct_body = "{" component_list extension_mark? addition_list "}"
-pub(crate) static RULE_62: Expression = seq!(
+static RULE_62: Expression = seq!(
     symbol!(b"{"),
     Call(COMPONENT_LIST),
     option!(Call(EXTENSION_MARK)),
@@ -78,19 +82,16 @@ pub(crate) static RULE_62: Expression = seq!(
     symbol!(b"}")
 );
 // 63 extension_mark = extension_marker ","?
-pub(crate) static RULE_63: Expression = seq!(Call(EXTENSION_MARKER), option!(symbol!(b",")));
+static RULE_63: Expression = seq!(Call(EXTENSION_MARKER), option!(symbol!(b",")));
 // 64 component_list = (sequence_component ","?)*
-pub(crate) static RULE_64: Expression = Many(&seq!(
-    Call(SEQUENCE_COMPONENT),
-    option!(symbol!(b","))
-));
+static RULE_64: Expression = Many(&seq!(Call(SEQUENCE_COMPONENT), option!(symbol!(b","))));
 // 65 addition_list = ((extension_group / sequence_component) ","?)*
-pub(crate) static RULE_65: Expression = Many(&seq!(
+static RULE_65: Expression = Many(&seq!(
     choice!(Call(EXTENSION_GROUP), Call(SEQUENCE_COMPONENT)),
     option!(symbol!(b","))
 ));
 // 66 extension_group = "[" "[" group_number? (sequence_component ","?)+ "]" "]"
-pub(crate) static RULE_66: Expression = seq!(
+static RULE_66: Expression = seq!(
     symbol!(b"["),
     symbol!(b"["),
     option!(Call(GROUP_NUMBER)),
@@ -99,14 +100,14 @@ pub(crate) static RULE_66: Expression = seq!(
     symbol!(b"]")
 );
 // 67 group_number = number_i128 ":"
-pub(crate) static RULE_67: Expression = seq!(Call(NUMBER_I128), symbol!(b":"));
+static RULE_67: Expression = seq!(Call(NUMBER_I128), symbol!(b":"));
 // 68 component_path = identifier ("." "&" identifier)*
-pub(crate) static RULE_68: Expression = seq!(
+static RULE_68: Expression = seq!(
     Call(IDENTIFIER),
     Many(&seq!(symbol!(b"."), symbol!(b"&"), Call(IDENTIFIER)))
 );
 // 69 sequence_component = 'COMPONENTS' 'OF' component_path / sequence_or_set_member
-pub(crate) static RULE_69: Expression = choice!(
+static RULE_69: Expression = choice!(
     seq!(
         keyword!(b"COMPONENTS"),
         keyword!(b"OF"),
@@ -115,7 +116,7 @@ pub(crate) static RULE_69: Expression = choice!(
     Call(SEQUENCE_OR_SET_MEMBER)
 );
 // 70 sequence_or_set_member = identifier asn_tag? asn1_type constraint? optional_marker default
-pub(crate) static RULE_70: Expression = seq!(
+static RULE_70: Expression = seq!(
     Call(IDENTIFIER),
     option!(Call(ASN_TAG)),
     Call(ASN1_TYPE),
@@ -124,11 +125,11 @@ pub(crate) static RULE_70: Expression = seq!(
     Call(DEFAULT)
 );
 // 71 optional_marker = 'OPTIONAL'?
-pub(crate) static RULE_71: Expression = option!(keyword_as!(Optional, b"OPTIONAL"));
+static RULE_71: Expression = option!(keyword_as!(Optional, b"OPTIONAL"));
 // 72 default = ('DEFAULT' asn1_value)?
-pub(crate) static RULE_72: Expression = option!(seq!(keyword!(b"DEFAULT"), Call(ASN1_VALUE)));
+static RULE_72: Expression = option!(seq!(keyword!(b"DEFAULT"), Call(ASN1_VALUE)));
 // 73 asn_tag = "[" words(PRIVATE, APPLICATION, UNIVERSAL)? number_u64 "]" words(EXPLICIT, IMPLICIT)?
-pub(crate) static RULE_73: Expression = seq!(
+static RULE_73: Expression = seq!(
     symbol!(b"["),
     option!(words!(
         (Private, b"PRIVATE"),
@@ -140,27 +141,24 @@ pub(crate) static RULE_73: Expression = seq!(
     option!(words!((Explicit, b"EXPLICIT"), (Implicit, b"IMPLICIT")))
 );
 // 74 utc_time = 'UTCTime' constraint?
-pub(crate) static RULE_74: Expression = seq!(keyword!(b"UTCTime"), option!(Call(CONSTRAINT)));
+static RULE_74: Expression = seq!(keyword!(b"UTCTime"), option!(Call(CONSTRAINT)));
 // 75 external = 'EXTERNAL'
-pub(crate) static RULE_75: Expression = keyword!(b"EXTERNAL");
+static RULE_75: Expression = keyword!(b"EXTERNAL");
 // 76 embedded_pdv = 'EMBEDDED' 'PDV'
-pub(crate) static RULE_76: Expression = seq!(keyword!(b"EMBEDDED"), keyword!(b"PDV"));
+static RULE_76: Expression = seq!(keyword!(b"EMBEDDED"), keyword!(b"PDV"));
 // 77 instance_of = 'INSTANCE' 'OF' class_name constraint?
-pub(crate) static RULE_77: Expression = seq!(
+static RULE_77: Expression = seq!(
     keyword!(b"INSTANCE"),
     keyword!(b"OF"),
     Call(CLASS_NAME),
     option!(Call(CONSTRAINT))
 );
 // 78 generalized_time = 'GeneralizedTime' constraint?
-pub(crate) static RULE_78: Expression = seq!(
-    keyword!(b"GeneralizedTime"),
-    option!(Call(CONSTRAINT))
-);
+static RULE_78: Expression = seq!(keyword!(b"GeneralizedTime"), option!(Call(CONSTRAINT)));
 // 79 real = 'REAL' constraint?
-pub(crate) static RULE_79: Expression = seq!(keyword!(b"REAL"), option!(Call(CONSTRAINT)));
+static RULE_79: Expression = seq!(keyword!(b"REAL"), option!(Call(CONSTRAINT)));
 // 80 choice = 'CHOICE' "{" option_list extension_mark? option_additions "}"
-pub(crate) static RULE_80: Expression = seq!(
+static RULE_80: Expression = seq!(
     keyword!(b"CHOICE"),
     symbol!(b"{"),
     Call(OPTION_LIST),
@@ -169,14 +167,14 @@ pub(crate) static RULE_80: Expression = seq!(
     symbol!(b"}")
 );
 // 81 option_list = (choice_option ","?)*
-pub(crate) static RULE_81: Expression = Many(&seq!(Call(CHOICE_OPTION), option!(symbol!(b","))));
+static RULE_81: Expression = Many(&seq!(Call(CHOICE_OPTION), option!(symbol!(b","))));
 // 82 option_additions = ((option_group / choice_option) ","?)*
-pub(crate) static RULE_82: Expression = Many(&seq!(
+static RULE_82: Expression = Many(&seq!(
     choice!(Call(OPTION_GROUP), Call(CHOICE_OPTION)),
     option!(symbol!(b","))
 ));
 // 83 option_group = "[" "[" group_number? (choice_option ","?)+ "]" "]"
-pub(crate) static RULE_83: Expression = seq!(
+static RULE_83: Expression = seq!(
     symbol!(b"["),
     symbol!(b"["),
     option!(Call(GROUP_NUMBER)),
@@ -185,33 +183,33 @@ pub(crate) static RULE_83: Expression = seq!(
     symbol!(b"]")
 );
 // 84 choice_option = identifier asn_tag? asn1_type constraint?
-pub(crate) static RULE_84: Expression = seq!(
+static RULE_84: Expression = seq!(
     Call(IDENTIFIER),
     option!(Call(ASN_TAG)),
     Call(ASN1_TYPE),
     option!(Call(CONSTRAINT))
 );
 // 85 integer = 'INTEGER' distinguished_values? constraint?
-pub(crate) static RULE_85: Expression = seq!(
+static RULE_85: Expression = seq!(
     keyword!(b"INTEGER"),
     option!(Call(DISTINGUISHED_VALUES)),
     option!(Call(CONSTRAINT))
 );
 // 86 distinguished_values = "{" (distinguished_val ","?)* "}"
-pub(crate) static RULE_86: Expression = seq!(
+static RULE_86: Expression = seq!(
     symbol!(b"{"),
     Many(&seq!(Call(DISTINGUISHED_VAL), option!(symbol!(b",")))),
     symbol!(b"}")
 );
 // 87 distinguished_val = identifier "(" number_i128 ")"
-pub(crate) static RULE_87: Expression = seq!(
+static RULE_87: Expression = seq!(
     Call(IDENTIFIER),
     symbol!(b"("),
     Call(NUMBER_I128),
     symbol!(b")")
 );
 // 88 enumerated = 'ENUMERATED' "{" enumeral_list extension_mark? enumeral_list "}" {the numbers of all items are of 128 bits}
-pub(crate) static RULE_88: Expression = Guarded(
+static RULE_88: Expression = Guarded(
     &seq!(
         keyword!(b"ENUMERATED"),
         symbol!(b"{"),
@@ -223,37 +221,37 @@ pub(crate) static RULE_88: Expression = Guarded(
     Guard::NumbersFit,
 );
 // 89 enumeral_list = enumeral*
-pub(crate) static RULE_89: Expression = Many(&Call(ENUMERAL));
+static RULE_89: Expression = Many(&Call(ENUMERAL));
 // 90 enumeral = identifier item_number? ","? item_comment?
-pub(crate) static RULE_90: Expression = seq!(
+static RULE_90: Expression = seq!(
     Call(IDENTIFIER),
     option!(Call(ITEM_NUMBER)),
     option!(symbol!(b",")),
     option!(Call(ITEM_COMMENT))
 );
 // 91 item_number = "(" number_i128 ")"
-pub(crate) static RULE_91: Expression = seq!(symbol!(b"("), Call(NUMBER_I128), symbol!(b")"));
+static RULE_91: Expression = seq!(symbol!(b"("), Call(NUMBER_I128), symbol!(b")"));
 // 92 item_comment = blank* comment
-pub(crate) static RULE_92: Expression = seq!(Many(&BLANK), Call(COMMENT));
+static RULE_92: Expression = seq!(Many(&BLANK), Call(COMMENT));
 // 93 boolean = 'BOOLEAN' constraint?
-pub(crate) static RULE_93: Expression = seq!(keyword!(b"BOOLEAN"), option!(Call(CONSTRAINT)));
+static RULE_93: Expression = seq!(keyword!(b"BOOLEAN"), option!(Call(CONSTRAINT)));
 // 94 bit_string = 'BIT' 'STRING' distinguished_values? constraint?
-pub(crate) static RULE_94: Expression = seq!(
+static RULE_94: Expression = seq!(
     keyword!(b"BIT"),
     keyword!(b"STRING"),
     option!(Call(DISTINGUISHED_VALUES)),
     option!(Call(CONSTRAINT))
 );
 // 95 time = 'TIME' constraint?
-pub(crate) static RULE_95: Expression = seq!(keyword!(b"TIME"), option!(Call(CONSTRAINT)));
+static RULE_95: Expression = seq!(keyword!(b"TIME"), option!(Call(CONSTRAINT)));
 // 96 octet_string = 'OCTET' 'STRING' constraint?
-pub(crate) static RULE_96: Expression = seq!(
+static RULE_96: Expression = seq!(
     keyword!(b"OCTET"),
     keyword!(b"STRING"),
     option!(Call(CONSTRAINT))
 );
 // 97 character_string = words(IA5String, UTF8String, NumericString, VisibleString, TeletexString, VideotexString, GraphicString, GeneralString, UniversalString, BMPString, PrintableString) constraint?
-pub(crate) static RULE_97: Expression = seq!(
+static RULE_97: Expression = seq!(
     words!(
         (Ia5String, b"IA5String"),
         (Utf8String, b"UTF8String"),
@@ -270,21 +268,21 @@ pub(crate) static RULE_97: Expression = seq!(
     option!(Call(CONSTRAINT))
 );
 // 98 field_step = "." object_field_identifier
-pub(crate) static RULE_98: Expression = seq!(symbol!(b"."), Call(OBJECT_FIELD_IDENTIFIER));
+static RULE_98: Expression = seq!(symbol!(b"."), Call(OBJECT_FIELD_IDENTIFIER));
 // 99 information_object_field_reference = class_name field_step+ constraint?
-pub(crate) static RULE_99: Expression = seq!(
+static RULE_99: Expression = seq!(
     Call(CLASS_NAME),
     some!(Call(FIELD_STEP)),
     option!(Call(CONSTRAINT))
 );
 // 100 elsewhere_declared_type = value_path title_case_identifier constraint?
-pub(crate) static RULE_100: Expression = seq!(
+static RULE_100: Expression = seq!(
     Call(VALUE_PATH),
     Call(TITLE_CASE_IDENTIFIER),
     option!(Call(CONSTRAINT))
 );
 // 101 asn1_type = null / selection_type_choice / object_identifier / sequence_of / sequence / set_of / set / utc_time / external / embedded_pdv / instance_of / generalized_time / real / choice / integer / enumerated / boolean / bit_string / time / octet_string / character_string / information_object_field_reference / elsewhere_declared_type
-pub(crate) static RULE_101: Expression = choice!(
+static RULE_101: Expression = choice!(
     Call(NULL),
     Call(SELECTION_TYPE_CHOICE),
     Call(OBJECT_IDENTIFIER),
@@ -309,3 +307,63 @@ pub(crate) static RULE_101: Expression = choice!(
     Call(INFORMATION_OBJECT_FIELD_REFERENCE),
     Call(ELSEWHERE_DECLARED_TYPE)
 );
+
+// The row of one of these rules.
+#[tactic(auto, unfolding(crate::specs::TypeRules::type_rules_before))]
+pub(crate) fn type_row(rule: u8) -> &'static Expression
+    requires first { 54 ≤ rule }
+    requires last { rule ≤ 101 }
+    ensures { (further : List Row) → expression result.now ≡ rule_of (type_rules_before further) (rule - 54) }
+{
+    match rule {
+        54 => &RULE_54,
+        55 => &RULE_55,
+        56 => &RULE_56,
+        57 => &RULE_57,
+        58 => &RULE_58,
+        59 => &RULE_59,
+        60 => &RULE_60,
+        61 => &RULE_61,
+        62 => &RULE_62,
+        63 => &RULE_63,
+        64 => &RULE_64,
+        65 => &RULE_65,
+        66 => &RULE_66,
+        67 => &RULE_67,
+        68 => &RULE_68,
+        69 => &RULE_69,
+        70 => &RULE_70,
+        71 => &RULE_71,
+        72 => &RULE_72,
+        73 => &RULE_73,
+        74 => &RULE_74,
+        75 => &RULE_75,
+        76 => &RULE_76,
+        77 => &RULE_77,
+        78 => &RULE_78,
+        79 => &RULE_79,
+        80 => &RULE_80,
+        81 => &RULE_81,
+        82 => &RULE_82,
+        83 => &RULE_83,
+        84 => &RULE_84,
+        85 => &RULE_85,
+        86 => &RULE_86,
+        87 => &RULE_87,
+        88 => &RULE_88,
+        89 => &RULE_89,
+        90 => &RULE_90,
+        91 => &RULE_91,
+        92 => &RULE_92,
+        93 => &RULE_93,
+        94 => &RULE_94,
+        95 => &RULE_95,
+        96 => &RULE_96,
+        97 => &RULE_97,
+        98 => &RULE_98,
+        99 => &RULE_99,
+        100 => &RULE_100,
+        101 => &RULE_101,
+        0..=53 | 102..=255 => unreachable!(),
+    }
+}
