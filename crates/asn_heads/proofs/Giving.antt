@@ -6,13 +6,16 @@ use Rattle.std.specs.Str.{bytes_eq}
 use Rattle.std.proofs.lemmas.List.{drop_more}
 use Rattle.asn_notation.specs.Syntax.{given_name}
 use Rattle.asn_tree.specs.declared.objects.InformationObject.{InformationObject}
+use Rattle.asn_tree.specs.declared.objects.InformationObjectClass.{InformationObjectClass}
+use Rattle.asn_tree.specs.declared.objects.SyntaxApplication.{SyntaxApplication}
 use Rattle.asn_tree.specs.declared.objects.InformationObjectField.{InformationObjectField, out-InformationObjectField}
 use Rattle.asn_tree.specs.declared.objects.InformationObjectFields.{InformationObjectFields, InformationObjectFields-F, out-InformationObjectFields}
 use Rattle.asn_tree.specs.declared.objects.InformationObjectFields.TheVariants as fields
 use Rattle.asn_meaning.specs.Answers.{once}
 use Rattle.asn_meaning.specs.Definitions.{Definitions, class_named, object_named}
 use Rattle.asn_meaning.specs.Names.{field_target, marked, object_field, type_of_field}
-use Rattle.asn_meaning.specs.Objects.{given, given_at}
+use Rattle.asn_meaning.specs.Objects.{applied, given, given_at}
+use Rattle.asn_heads.specs.Following.{named}
 use Rattle.asn_meaning.specs.Scopes.{Scope, Target, bound_to}
 
 abbrev pub named_in : List InformationObjectField → List ℕ → Option InformationObjectField
@@ -27,6 +30,21 @@ pub given_default : (defs : Definitions) (o : InformationObject) (name : List �
     given defs o name ≡ named_in xs name
 given_default defs o name xs e =
     ap (λ x. once None (given_at (class_named defs o.class_name) x) (find (λ f. bytes_eq (given_name f) name))) (ap out-InformationObjectFields e ∙ fields.outs-DefaultSyntax xs)
+
+customs : (defs : Definitions) (o : InformationObject) (name : List ℕ) (items : List SyntaxApplication) → o.fields ≡ fields.CustomSyntax items →
+    given defs o name ≡ once None (once None (class_named defs o.class_name) (λ k. applied k.syntax items)) (find (λ f. bytes_eq (given_name f) name))
+customs defs o name items e =
+    ap (λ x. once None (given_at (class_named defs o.class_name) x) (find (λ f. bytes_eq (given_name f) name))) (ap out-InformationObjectFields e ∙ fields.outs-CustomSyntax items)
+
+pub given_classless : (defs : Definitions) (o : InformationObject) (name : List ℕ) (items : List SyntaxApplication) → o.fields ≡ fields.CustomSyntax items → class_named defs o.class_name ≡ None →
+    given defs o name ≡ None
+given_classless defs o name items e f =
+    customs defs o name items e ∙ ap (λ c. once None (once None c (λ k. applied k.syntax items)) (find (λ f. bytes_eq (given_name f) name))) f
+
+pub given_applied : (defs : Definitions) (o : InformationObject) (name : List ℕ) (items : List SyntaxApplication) (c : InformationObjectClass) → o.fields ≡ fields.CustomSyntax items →
+    class_named defs o.class_name ≡ Some c → given defs o name ≡ once None (applied c.syntax items) (named name)
+given_applied defs o name items c e f =
+    customs defs o name items e ∙ ap (λ c. once None (once None c (λ k. applied k.syntax items)) (find (λ f. bytes_eq (given_name f) name))) f
 
 -- ---- the field of an object
 

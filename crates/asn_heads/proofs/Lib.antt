@@ -5,4 +5,7 @@ pub mod Fields
 pub mod Finding
 pub mod Entering
 pub mod Giving
+pub mod Numbers
+pub mod Due
+pub mod Walking
 pub mod Leading

@@ -7,4 +7,6 @@ pub mod Lists
 pub mod Classes
 pub mod Values
 pub mod Objects
+pub mod Tokens
+pub mod Following
 pub mod Leads

@@ -19,8 +19,7 @@ use crate::kinds::{Kind, Reference, TypeForm, kind_of};
 use crate::names::reference_target;
 use crate::places::{Place, Target};
 use crate::scopes::Scope;
-use crate::stopped::Judged;
-use asn_memory::Text;
+use asn_memory::{Mem, Text};
 use asn_tree::{ChoiceOption, ChoiceSelectionType, ToplevelDefinition};
 use std::alloc::Global;
 
@@ -102,7 +101,7 @@ fn selected<'a>(head: Place<'a>, name: &str) -> Option<Target<'a>>
 
 /// `a < C`: the type of the CHOICE's option with the option's constraints; the CHOICE's own do not come along (X.680 30.2).
 ///
-/// Err: want of memory, or as `field_target`.
+/// Err: want of memory.
 #[cycle(heading)]
 #[tactic(auto, using(crate::proofs::Leading::selection_of_none, crate::proofs::Leading::selection_of_head))]
 fn selection_target<'a>(
@@ -111,7 +110,7 @@ fn selection_target<'a>(
     steps: usize,
     scope: &Scope<'a>,
     selection: &'a ChoiceSelectionType,
-) -> Judged<Option<Target<'a>>>
+) -> Mem<Option<Target<'a>>>
     ensures { IfOk result (λ target. option_map shown_target target ≡ selection_target (meaning definitions.now steps) (shown scope.now) selection.now) }
 {
     match head_named(alloc, definitions, steps, scope, &selection.choice_name)? {
@@ -123,14 +122,14 @@ fn selection_target<'a>(
 /// Where a type leads: a plain name, an argument list, a selection, a class's field of fixed type and a field of an object
 /// lead on; every other type is a head, an open type too.
 ///
-/// Err: want of memory, or as `field_target`.
+/// Err: want of memory.
 #[cycle(heading)]
 pub fn lead_of<'a>(
     alloc: Global,
     definitions: &'a [ToplevelDefinition],
     steps: usize,
     place: &Place<'a>,
-) -> Judged<Lead<'a>>
+) -> Mem<Lead<'a>>
     ensures { IfOk result (λ l. shown_lead l ≡ lead definitions.now (meaning definitions.now steps) (shown_place place.now)) }
 {
     match kind_of(place.ty) {
@@ -165,7 +164,7 @@ pub fn lead_of<'a>(
 
 /// The head of a type within a number of steps: the first type on the way that leads nowhere else.
 ///
-/// None: the steps do not reach, or a name leads nowhere. Err: want of memory, or as `field_target`.
+/// None: the steps do not reach, or a name leads nowhere. Err: want of memory.
 #[cycle(heading)]
 #[tactic(auto, using(crate::proofs::Leading::head_at_zero, crate::proofs::Leading::head_is, crate::proofs::Leading::head_beyond, crate::proofs::Leading::head_lost))]
 pub fn head<'a>(
@@ -173,7 +172,7 @@ pub fn head<'a>(
     definitions: &'a [ToplevelDefinition],
     steps: usize,
     place: &Place<'a>,
-) -> Judged<Option<Place<'a>>>
+) -> Mem<Option<Place<'a>>>
     ensures { IfOk result (λ found. option_map shown_place found ≡ (meaning definitions.now steps).head (shown_place place.now)) }
 {
     if steps == 0 {
@@ -194,7 +193,7 @@ pub fn head<'a>(
 
 /// The head of a type that a name stands for.
 ///
-/// Err: want of memory, or as `field_target`.
+/// Err: want of memory.
 #[cycle(heading)]
 pub fn head_named<'a>(
     alloc: Global,
@@ -202,7 +201,7 @@ pub fn head_named<'a>(
     steps: usize,
     scope: &Scope<'a>,
     name: &'a Text,
-) -> Judged<Option<Place<'a>>>
+) -> Mem<Option<Place<'a>>>
     ensures { IfOk result (λ found. option_map shown_place found ≡ head_named (meaning definitions.now steps) (shown scope.now) name.now) }
 {
     let scope = scope.copy(alloc)?;

@@ -2,8 +2,8 @@
 //! for, what a scope binds, what a type and a value are made of, what a class's and an object's field is, and the head of a
 //! type.
 //!
-//! What meaning knows within a number of steps, a call computes by `steps`, which counts down. An object in its class's own
-//! syntax is not followed yet: a call that comes to one stops, and says so (`Stopped::OwnSyntax`).
+//! What meaning knows within a number of steps, a call computes by `steps`, which counts down. A call fails for want of memory
+//! and for nothing else.
 //!
 //! It stands on the trees and on asn_meaning, borrows the trees, and copies no more than scopes. Each call is proved to
 //! give what its definition says, so that tests ask the definitions themselves.
@@ -11,16 +11,18 @@
 
 mod classes;
 mod definitions;
+mod following;
 mod items;
 mod kinds;
 mod leads;
 mod lists;
+mod matching;
 mod names;
 mod objects;
 mod places;
 mod scopes;
-mod stopped;
 mod templates;
+mod tokens;
 mod values;
 mod written;
 
@@ -34,7 +36,6 @@ pub use names::{dummy_target, name_target, reference_target};
 pub use objects::{GivenField, Gives, field_target, given, object_field};
 pub use places::{Place, Target};
 pub use scopes::{Argument, Bound, Scope, with_argument};
-pub use stopped::{Judged, Stopped};
 pub use templates::{entered, instance};
 pub use values::{ValueForm, value_written};
 pub use written::{Written, as_written};

@@ -16,7 +16,6 @@ use crate::lists::{ArgumentLists, argument_lists};
 use crate::objects::field_target;
 use crate::places::{Place, Target};
 use crate::scopes::{Bound, Scope};
-use crate::stopped::Judged;
 use crate::templates::instance;
 use crate::written::{Written, as_written};
 use asn_memory::Mem;
@@ -144,13 +143,13 @@ pub fn name_target<'a>(
 
 /// Where a type reference leads: its name, or the field of an object (X.681 15.1).
 ///
-/// Err: as `field_target`.
+/// Err: want of memory.
 pub fn reference_target<'a>(
     alloc: Global,
     definitions: &'a [ToplevelDefinition],
     scope: &Scope<'a>,
     reference: Reference<'a>,
-) -> Judged<Option<Target<'a>>>
+) -> Mem<Option<Target<'a>>>
     ensures { IfOk result (λ target. option_map shown_target target ≡ reference_target definitions.now (shown scope.now) (shown_reference reference.entry)) }
 {
     match reference {

@@ -1,23 +1,22 @@
 //! What objects give for the fields of their class (X.681 11).
 
-ghost use Rattle.asn_heads.specs.Objects.{in_own_syntax, shown_given};
+ghost use Rattle.asn_heads.specs.Objects.{shown_given};
 ghost use Rattle.asn_heads.specs.Places.{shown_target};
 ghost use Rattle.asn_heads.specs.Scopes.{shown};
 ghost use Rattle.asn_meaning.specs.Names.{field_target, marked, object_field, type_of_field};
 ghost use Rattle.asn_meaning.specs.Objects.{given};
 ghost use Rattle.asn_notation.specs.Syntax.{given_name};
 ghost use Rattle.asn_tree.specs.declared.objects.InformationObjectField.{out-InformationObjectField};
-ghost use Rattle.asn_tree.specs.declared.objects.InformationObjectFields.{out-InformationObjectFields};
 ghost use Rattle.std.specs.List.{find};
 ghost use Rattle.std.specs.Option.{option_copied, option_map};
-ghost use Rattle.std.specs.Prelude.{◌≡◌, IfOk, OnErr, true};
+ghost use Rattle.std.specs.Prelude.{◌≡◌, IfOk};
 ghost use Rattle.std.specs.Str.{bytes_eq};
 
-use crate::definitions::object_named;
+use crate::definitions::{class_named, object_named};
+use crate::following::applied;
 use crate::kinds::TypeForm;
 use crate::places::Target;
 use crate::scopes::Scope;
-use crate::stopped::{Judged, Stopped};
 use crate::values::ValueForm;
 use asn_memory::{Mem, Text};
 use asn_tree::{
@@ -37,7 +36,7 @@ pub enum Gives<'a> {
 /// A field that an object gives, by its name with its `&`.
 #[derive(Clone, Copy)]
 pub struct GivenField<'a> {
-    pub name: &'a Text,
+    pub name: &'a str,
     pub gives: Gives<'a>,
 }
 
@@ -47,15 +46,15 @@ fn as_given<'a>(field: &'a InformationObjectField) -> GivenField<'a>
 {
     match field {
         InformationObjectField::TypeField(field) => GivenField {
-            name: &field.identifier,
+            name: field.identifier.as_str(),
             gives: Gives::Type(TypeForm::Written(&field.ty)),
         },
         InformationObjectField::FixedValueField(field) => GivenField {
-            name: &field.identifier,
+            name: field.identifier.as_str(),
             gives: Gives::Value(ValueForm::Written(&field.value)),
         },
         InformationObjectField::ObjectSetField(field) => GivenField {
-            name: &field.identifier,
+            name: field.identifier.as_str(),
             gives: Gives::Set(&field.value),
         },
     }
@@ -88,26 +87,30 @@ fn find_given<'a>(
     None
 }
 
-/// The field that an object gives by this name with its `&` (X.681 11.4).
-///
-/// Err: `OwnSyntax`, for an object in its class's own syntax (X.681 11.6) and for no other.
-#[tactic(auto, using(crate::proofs::Giving::given_default))]
+/// The field that an object gives by this name with its `&` (X.681 11.4): one that stands by its name, or one that the
+/// items of the class's own syntax give (X.681 11.6). None: it gives no such field, its class is missing, or its items do
+/// not follow the class's syntax.
+#[tactic(auto, using(crate::proofs::Giving::given_default, crate::proofs::Giving::given_classless, crate::proofs::Giving::given_applied))]
 pub fn given<'a>(
     definitions: &'a [ToplevelDefinition],
     object: &'a InformationObject,
     name: &str,
-) -> Judged<Option<GivenField<'a>>>
-    ensures ok { IfOk result (λ field. option_map shown_given field ≡ given definitions.now object.now name.now) }
-    ensures err { OnErr result (in_own_syntax (out-InformationObjectFields object.now.fields) ≡ true) }
+) -> Option<GivenField<'a>>
+    ensures { option_map shown_given result ≡ given definitions.now object.now name.now }
 {
     match &object.fields {
         InformationObjectFields::DefaultSyntax(fields) => {
             match find_given(fields.as_slice(), name) {
-                None => Ok(None),
-                Some(field) => Ok(Some(as_given(field))),
+                None => None,
+                Some(field) => Some(as_given(field)),
             }
         }
-        InformationObjectFields::CustomSyntax(_) => Err(Stopped::OwnSyntax),
+        InformationObjectFields::CustomSyntax(items) => {
+            match class_named(definitions, object.class_name.as_str()) {
+                None => None,
+                Some(class) => applied(class, items.as_slice(), name),
+            }
+        }
     }
 }
 
@@ -124,7 +127,7 @@ fn marked(alloc: Global, name: &str) -> Mem<Text>
 
 /// The field that an object gives, by the field's name without its `&`; a dummy is no object.
 ///
-/// Err: want of memory, or as `given`.
+/// Err: want of memory.
 #[tactic(auto, using(crate::proofs::Giving::field_of_dummy, crate::proofs::Giving::field_of_none, crate::proofs::Giving::field_of_object))]
 pub fn object_field<'a>(
     alloc: Global,
@@ -132,7 +135,7 @@ pub fn object_field<'a>(
     scope: &Scope<'a>,
     name: &str,
     field: &str,
-) -> Judged<Option<GivenField<'a>>>
+) -> Mem<Option<GivenField<'a>>>
     ensures { IfOk result (λ given. option_map shown_given given ≡ object_field definitions.now (shown scope.now) name.now field.now) }
 {
     if scope.bound_to(name).is_some() {
@@ -142,8 +145,7 @@ pub fn object_field<'a>(
         None => Ok(None),
         Some(object) => {
             let marked = marked(alloc, field)?;
-            let found = given(definitions, object, marked.as_str())?;
-            Ok(found)
+            Ok(given(definitions, object, marked.as_str()))
         }
     }
 }
@@ -164,7 +166,7 @@ fn type_of_field<'a>(given: GivenField<'a>) -> Option<Target<'a>>
 
 /// `o.&T`: the type that the object gives (X.681 15.1).
 ///
-/// Err: want of memory, or as `given`.
+/// Err: want of memory.
 #[tactic(auto, using(crate::proofs::Giving::target_of_none, crate::proofs::Giving::target_of_some))]
 pub fn field_target<'a>(
     alloc: Global,
@@ -172,7 +174,7 @@ pub fn field_target<'a>(
     scope: &Scope<'a>,
     name: &str,
     field: &str,
-) -> Judged<Option<Target<'a>>>
+) -> Mem<Option<Target<'a>>>
     ensures { IfOk result (λ target. option_map shown_target target ≡ field_target definitions.now (shown scope.now) name.now field.now) }
 {
     match object_field(alloc, definitions, scope, name, field)? {
