@@ -1,3 +1,5 @@
 pub mod Showing
 pub mod Membering
 pub mod Shaping
+pub mod Putting
+pub mod Judging

@@ -1,6 +1,6 @@
 -- What a tree of the code stands for, by its variant.
 use Rattle.std.proofs.Common.{◌≡◌, ℕ, ◌+◌, ◌<◌, List, ◌∷◌, drop, length, get_or, Bool, true, false, refl, sym, ap, ◌∙◌}
-use Rattle.std.specs.Prelude.{Option, Some, None, if◌then◌else◌, map, ℤ}
+use Rattle.std.specs.Prelude.{Option, Some, if◌then◌else◌, map, ℤ}
 use Rattle.std.specs.Str.{bytes_eq, chars}
 use Rattle.std.proofs.lemmas.List.{drop_more}
 use Rattle.asn_judge.specs.declared.trees.Tree.{Tree, Tree-F, out-Tree, fold_out-Tree, map-Tree}

@@ -1,17 +1,25 @@
-//! A plain slow program that computes which trees a type accepts by the definitions of meaning, as far as it goes: which
-//! trees fit a kind of type at one level, and the members of a SEQUENCE or SET by name.
+//! A plain slow program that computes which trees a type accepts by the definitions of meaning, as far as it goes: the
+//! members of a SEQUENCE or SET with those that COMPONENTS OF puts in, and which trees fit a type at every depth,
+//! constraints and character sets aside.
 //!
-//! It stands on asn_heads, which tells where names lead, borrows the trees, and copies no more than scopes. Each call is
-//! proved to give what its definition says, so that tests ask the definitions themselves.
+//! What meaning knows within a number of steps, a call computes by `steps`, which counts down. It stands on asn_heads, which
+//! tells where names lead, borrows the trees, and copies no more than scopes. Each call is proved to give what its
+//! definition says, so that tests ask the definitions themselves.
 #![tactic(auto)]
 
 mod answers;
+mod components;
+mod fitting;
 mod members;
+mod parts;
 mod shapes;
 mod trees;
 
 pub use answers::Answer;
+pub use components::{members_of, struct_members};
+pub use fitting::fits;
 pub use members::{Member, member_named};
+pub use parts::{Alternative, alternative_of, elements_of, fields_of, is_of_kind};
 pub use shapes::{
     are_members, is_bits, is_identifier, is_item, is_null, is_octets, is_opaque, is_real, is_text,
     is_truth_value, is_whole_number,
