@@ -10,7 +10,7 @@ ghost use Rattle.std.specs.Option.{option_map};
 ghost use Rattle.std.specs.Prelude.{◌≡◌, ◌<◌, ◌++◌, ◌∷◌, [], get_or, if◌then◌else◌, length, nat_eq, IfOk, Some, map};
 
 use crate::members::Member;
-use asn_heads::{Judged, Kind, Place, Scope, head_named, kind_of};
+use asn_heads::{Kind, Place, Scope, head_named, kind_of};
 use asn_memory::{List, Mem, Text};
 use asn_tree::{SequenceOrSet, SequenceOrSetMember, ToplevelDefinition};
 use std::alloc::Global;
@@ -104,7 +104,7 @@ fn moved_roots<'a>(alloc: Global, among: bool, members: &[Member<'a>]) -> Mem<Li
 /// The members of a SEQUENCE or SET within a number of steps: the written ones, with the root members of each COMPONENTS OF
 /// at its place (X.680 25.5).
 ///
-/// None: the steps do not reach, or a name leads nowhere or to a type of another kind. Err: as `head`.
+/// None: the steps do not reach, or a name leads nowhere or to a type of another kind. Err: want of memory.
 #[cycle(membering)]
 #[tactic(auto, using(crate::proofs::Putting::members_at_zero, crate::proofs::Putting::members_at_more))]
 pub fn struct_members<'a>(
@@ -113,7 +113,7 @@ pub fn struct_members<'a>(
     steps: usize,
     scope: &Scope<'a>,
     layer: &'a SequenceOrSet,
-) -> Judged<Option<List<Member<'a>>>>
+) -> Mem<Option<List<Member<'a>>>>
     ensures { IfOk result (λ found. option_map shown_members found ≡ (meaning definitions.now steps).members (shown scope.now) (out-SequenceOrSet layer.now)) }
 {
     if steps == 0 {
@@ -132,7 +132,7 @@ fn members_at<'a>(
     steps: usize,
     scope: &Scope<'a>,
     layer: &'a SequenceOrSet,
-) -> Judged<Option<List<Member<'a>>>>
+) -> Mem<Option<List<Member<'a>>>>
     ensures { IfOk result (λ found. option_map shown_members found ≡ members_at (meaning definitions.now steps) (shown scope.now) (out-SequenceOrSet layer.now)) }
 {
     let mut members = List::new(alloc);
@@ -174,7 +174,7 @@ fn put_in<'a>(
     scope: &Scope<'a>,
     layer: &'a SequenceOrSet,
     number: usize,
-) -> Judged<Option<List<Member<'a>>>>
+) -> Mem<Option<List<Member<'a>>>>
     ensures { IfOk result (λ found. option_map shown_members found ≡ put_in (meaning definitions.now steps) (shown scope.now) number (out-SequenceOrSet layer.now).components_of (out-SequenceOrSet layer.now).components_at) }
 {
     let names = layer.components_of.as_slice();
@@ -206,7 +206,7 @@ fn put_at<'a>(
     name: &'a Text,
     at: (usize, bool),
     number: usize,
-) -> Judged<Option<List<Member<'a>>>>
+) -> Mem<Option<List<Member<'a>>>>
     ensures { IfOk result (λ found. option_map shown_members found ≡ (if nat_eq at.0 number then components_of (meaning definitions.now steps) (shown scope.now) at.1 name.now else Some [])) }
 {
     if at.0 == number {
@@ -228,7 +228,7 @@ fn components_of<'a>(
     scope: &Scope<'a>,
     among: bool,
     name: &'a Text,
-) -> Judged<Option<List<Member<'a>>>>
+) -> Mem<Option<List<Member<'a>>>>
     ensures { IfOk result (λ found. option_map shown_members found ≡ components_of (meaning definitions.now steps) (shown scope.now) among name.now) }
 {
     match head_named(alloc, definitions, steps, scope, name)? {
@@ -245,14 +245,14 @@ fn components_of<'a>(
 
 /// The members of a head that is a SEQUENCE or SET, within a number of steps.
 ///
-/// None: as `struct_members`, or a head of another kind. Err: as `head`.
+/// None: as `struct_members`, or a head of another kind. Err: want of memory.
 #[cycle(membering)]
 pub fn members_of<'a>(
     alloc: Global,
     definitions: &'a [ToplevelDefinition],
     steps: usize,
     head: &Place<'a>,
-) -> Judged<Option<List<Member<'a>>>>
+) -> Mem<Option<List<Member<'a>>>>
     ensures { IfOk result (λ found. option_map shown_members found ≡ members_of (meaning definitions.now steps) (shown_place head.now)) }
 {
     match kind_of(head.ty) {

@@ -20,13 +20,14 @@ use crate::members::Member;
 use crate::parts::{alternative_of, elements_of, fields_of, is_of_kind};
 use crate::shapes::are_members;
 use crate::trees::{Field, Tree, find_field};
-use asn_heads::{Judged, Kind, Place, Scope, TypeForm, head, kind_of, option_named};
+use asn_heads::{Kind, Place, Scope, TypeForm, head, kind_of, option_named};
+use asn_memory::Mem;
 use asn_tree::{ASN1Type, ChoiceOption, SequenceOrSet, ToplevelDefinition};
 use std::alloc::Global;
 
 /// Whether a tree fits a type within a number of steps.
 ///
-/// Unknown: the steps do not reach, or a name leads nowhere. Err: as `head`.
+/// Unknown: the steps do not reach, or a name leads nowhere. Err: want of memory.
 #[cycle(fitting)]
 #[tactic(auto, using(crate::proofs::Judging::fits_at_zero, crate::proofs::Judging::fits_at_more))]
 pub fn fits<'a>(
@@ -35,7 +36,7 @@ pub fn fits<'a>(
     steps: usize,
     place: &Place<'a>,
     tree: &Tree,
-) -> Judged<Answer>
+) -> Mem<Answer>
     ensures { IfOk result (λ answer. known answer ≡ (meaning definitions.now steps).fits (shown_place place.now) (shown_tree tree.now)) }
 {
     if steps == 0 {
@@ -54,7 +55,7 @@ fn fits_at<'a>(
     steps: usize,
     place: &Place<'a>,
     tree: &Tree,
-) -> Judged<Answer>
+) -> Mem<Answer>
     ensures { IfOk result (λ answer. known answer ≡ fits_at (meaning definitions.now steps) (shown_place place.now) (shown_tree tree.now)) }
 {
     match head(alloc, definitions, steps, place)? {
@@ -75,7 +76,7 @@ fn head_fits<'a>(
     steps: usize,
     place: &Place<'a>,
     tree: &Tree,
-) -> Judged<Answer>
+) -> Mem<Answer>
     ensures { IfOk result (λ answer. known answer ≡ head_fits (meaning definitions.now steps) (shown_tree tree.now) (shown_place place.now)) }
 {
     let kind = kind_of(place.ty);
@@ -97,7 +98,7 @@ fn parts_fit<'a>(
     scope: &Scope<'a>,
     kind: Kind<'a>,
     tree: &Tree,
-) -> Judged<Answer>
+) -> Mem<Answer>
     ensures { IfOk result (λ answer. known answer ≡ parts_fit (meaning definitions.now steps) (shown scope.now) (shown_tree tree.now) (shown_kind kind.entry)) }
 {
     match kind {
@@ -141,7 +142,7 @@ fn struct_fits<'a>(
     scope: &Scope<'a>,
     layer: &'a SequenceOrSet,
     tree: &Tree,
-) -> Judged<Answer>
+) -> Mem<Answer>
     ensures { IfOk result (λ answer. known answer ≡ struct_judged (member_fits (meaning definitions.now steps)) ((meaning definitions.now steps).members (shown scope.now) (out-SequenceOrSet layer.now)) (shown_tree tree.now)) }
 {
     match fields_of(tree) {
@@ -165,7 +166,7 @@ fn fields_fit<'a>(
     steps: usize,
     members: &[Member<'a>],
     fields: &[Field],
-) -> Judged<Answer>
+) -> Mem<Answer>
     ensures { IfOk result (λ answer. known answer ≡ fields_judged (member_fits (meaning definitions.now steps)) (shown_fields fields.now) (shown_members members.now)) }
 {
     let named = Answer::of(are_members(members, fields));
@@ -182,7 +183,7 @@ fn members_fit<'a>(
     steps: usize,
     members: &[Member<'a>],
     fields: &[Field],
-) -> Judged<Answer>
+) -> Mem<Answer>
     ensures { IfOk result (λ answer. known answer ≡ each (λ m. member_judged (member_fits (meaning definitions.now steps)) m (field_named (shown_fields fields.now) m.written.name)) (shown_members members.now)) }
 {
     let mut answer = Answer::Yes;
@@ -201,7 +202,7 @@ fn member_fits<'a>(
     steps: usize,
     member: &Member<'a>,
     fields: &[Field],
-) -> Judged<Answer>
+) -> Mem<Answer>
     ensures { IfOk result (λ answer. known answer ≡ member_judged (member_fits (meaning definitions.now steps)) (shown_member member.now) (field_named (shown_fields fields.now) (shown_member member.now).written.name)) }
 {
     match find_field(fields, member.written.name.as_str()) {
@@ -224,7 +225,7 @@ fn list_fits<'a>(
     scope: &Scope<'a>,
     ty: &'a ASN1Type,
     tree: &Tree,
-) -> Judged<Answer>
+) -> Mem<Answer>
     ensures { IfOk result (λ answer. known answer ≡ list_judged (type_fits (meaning definitions.now steps) (shown scope.now) ty.now) (shown_tree tree.now)) }
 {
     match elements_of(tree) {
@@ -250,7 +251,7 @@ fn elements_fit<'a>(
     steps: usize,
     place: &Place<'a>,
     elements: &[Tree],
-) -> Judged<Answer>
+) -> Mem<Answer>
     ensures { IfOk result (λ answer. known answer ≡ trees_judged ((meaning definitions.now steps).fits (shown_place place.now)) (shown_trees elements.now)) }
 {
     let mut answer = Answer::Yes;
@@ -271,7 +272,7 @@ fn choice_fits<'a>(
     scope: &Scope<'a>,
     options: &'a [ChoiceOption],
     tree: &Tree,
-) -> Judged<Answer>
+) -> Mem<Answer>
     ensures { IfOk result (λ answer. known answer ≡ choice_judged (option_fits (meaning definitions.now steps) (shown scope.now)) options.now (shown_tree tree.now)) }
 {
     match alternative_of(tree) {
