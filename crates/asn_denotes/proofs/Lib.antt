@@ -1,0 +1,5 @@
+pub mod Bracing
+pub mod Listing
+pub mod Naming
+pub mod Rowing
+pub mod Spelling

@@ -1,0 +1,83 @@
+//! Trees made of their parts, each with the value tree that it stands for.
+
+ghost use Rattle.asn_judge.specs.Trees.{shown_tree};
+ghost use Rattle.asn_meaning.specs.Rows.{arc_tree};
+ghost use Rattle.asn_meaning.specs.ValueTrees.{Bits, Characters, NullValue, ObjectIdentifierArcs, Octets, Opaque, RealNumber, TruthValue, WholeNumber};
+ghost use Rattle.std.specs.Prelude.{◌≡◌, map};
+ghost use Rattle.std.specs.Str.{chars};
+
+use asn_judge::Tree;
+use asn_memory::{List, Text};
+use asn_tree::{ObjectIdentifierValue, RealValue};
+
+/// The value of NULL.
+#[tactic(auto, using(asn_judge::proofs::Showing::null_shown))]
+pub fn null_tree() -> Tree
+    ensures { shown_tree result ≡ NullValue }
+{
+    Tree::Null
+}
+
+/// A truth value.
+#[tactic(auto, using(asn_judge::proofs::Showing::truth_shown))]
+pub fn truth_tree(truth: bool) -> Tree
+    ensures { shown_tree result ≡ TruthValue truth }
+{
+    Tree::Truth(truth)
+}
+
+/// A whole number.
+#[tactic(auto, using(asn_judge::proofs::Showing::whole_shown))]
+pub fn whole_tree(number: i128) -> Tree
+    ensures { shown_tree result ≡ WholeNumber number }
+{
+    Tree::Whole(number)
+}
+
+/// A real.
+#[tactic(auto, using(asn_judge::proofs::Showing::real_shown))]
+pub fn real_tree(real: RealValue) -> Tree
+    ensures { shown_tree result ≡ RealNumber real.mantissa real.base real.exponent }
+{
+    Tree::Real(real)
+}
+
+/// A string of bits.
+#[tactic(auto, using(asn_judge::proofs::Showing::bits_shown))]
+pub fn bits_tree(bits: List<bool>) -> Tree
+    ensures { shown_tree result ≡ Bits bits }
+{
+    Tree::Bits(bits)
+}
+
+/// A string of octets.
+#[tactic(auto, using(asn_judge::proofs::Showing::octets_shown))]
+pub fn octets_tree(octets: List<u8>) -> Tree
+    ensures { shown_tree result ≡ Octets octets }
+{
+    Tree::Octets(octets)
+}
+
+/// A text.
+#[tactic(auto, using(asn_judge::proofs::Showing::text_shown))]
+pub fn text_tree(text: Text) -> Tree
+    ensures { shown_tree result ≡ Characters (chars text) }
+{
+    Tree::Text(text)
+}
+
+/// An object identifier.
+#[tactic(auto, using(asn_judge::proofs::Showing::arcs_shown))]
+pub fn identifier_tree(identifier: ObjectIdentifierValue) -> Tree
+    ensures { shown_tree result ≡ ObjectIdentifierArcs (map arc_tree identifier.0) }
+{
+    Tree::ObjectIdentifier(identifier)
+}
+
+/// A value of which nothing is known.
+#[tactic(auto, using(asn_judge::proofs::Showing::opaque_shown))]
+pub fn opaque_tree() -> Tree
+    ensures { shown_tree result ≡ Opaque }
+{
+    Tree::Opaque
+}
