@@ -1,0 +1,131 @@
+//! What tests of several modules are made of: small types and trees.
+
+use asn_judge::{Field, Tree};
+use asn_markers::ExtensionMarker;
+use asn_memory::{Box, List, Mem, Text};
+use asn_tree::{
+    ASN1Type, Boolean, Choice, ChoiceOption, DeclarationElsewhere, Integer, SequenceComponent,
+    SequenceOrSet, SequenceOrSetMember, SequenceOrSetOf, ToplevelDefinition,
+    ToplevelTypeDefinition,
+};
+use std::alloc::Global;
+
+/// INTEGER.
+pub fn integer(alloc: Global) -> ASN1Type {
+    ASN1Type::Integer(Integer {
+        constraints: List::new(alloc),
+        distinguished_values: None,
+    })
+}
+
+/// BOOLEAN.
+pub fn boolean(alloc: Global) -> ASN1Type {
+    ASN1Type::Boolean(Boolean {
+        constraints: List::new(alloc),
+    })
+}
+
+/// A type reference.
+pub fn named(alloc: Global, name: &str) -> Mem<ASN1Type> {
+    let identifier = Text::new(alloc, name)?;
+    Ok(ASN1Type::ElsewhereDeclaredType(DeclarationElsewhere {
+        parent: None,
+        identifier,
+        constraints: List::new(alloc),
+    }))
+}
+
+/// A member, OPTIONAL or not.
+pub fn member(
+    alloc: Global,
+    name: &str,
+    ty: ASN1Type,
+    is_optional: bool,
+) -> Mem<SequenceComponent> {
+    let name = Text::new(alloc, name)?;
+    Ok(SequenceComponent::Member(SequenceOrSetMember {
+        name,
+        tag: None,
+        ty,
+        default_value: None,
+        is_optional,
+        is_recursive: false,
+        constraints: List::new(alloc),
+    }))
+}
+
+/// `COMPONENTS OF` the name.
+pub fn components_of(alloc: Global, name: &str) -> Mem<SequenceComponent> {
+    let name = Text::new(alloc, name)?;
+    Ok(SequenceComponent::ComponentsOf(name))
+}
+
+/// A SEQUENCE of two components, and an addition behind an extension marker, where there is one.
+pub fn sequence(
+    alloc: Global,
+    first: SequenceComponent,
+    second: SequenceComponent,
+    addition: Option<SequenceComponent>,
+) -> Mem<ASN1Type> {
+    let mut components = List::of(alloc, first)?;
+    components.add(second)?;
+    let (marker, additions) = match addition {
+        None => (None, None),
+        Some(addition) => (Some(ExtensionMarker()), Some(List::of(alloc, addition)?)),
+    };
+    let made = SequenceOrSet::from_parts(alloc, (components, marker, additions), None)?;
+    Ok(ASN1Type::Sequence(made))
+}
+
+/// A SEQUENCE OF.
+pub fn sequence_of(alloc: Global, ty: ASN1Type) -> Mem<ASN1Type> {
+    let made = SequenceOrSetOf::from_parts(alloc, None, ty)?;
+    Ok(ASN1Type::SequenceOf(made))
+}
+
+/// A CHOICE of one option.
+pub fn choice(alloc: Global, name: &str, ty: ASN1Type) -> Mem<ASN1Type> {
+    let option = ChoiceOption::from_parts(alloc, name, None, ty, None)?;
+    let options = List::of(alloc, option)?;
+    let made = Choice::from_parts(alloc, options, None, None)?;
+    Ok(ASN1Type::Choice(made))
+}
+
+/// The definition of a type.
+pub fn defined(alloc: Global, name: &str, ty: ASN1Type) -> Mem<ToplevelDefinition> {
+    let made = ToplevelTypeDefinition::named(alloc, name, ty)?;
+    Ok(ToplevelDefinition::TypeDef(made))
+}
+
+/// A member that is present.
+pub fn field(alloc: Global, name: &str, tree: Tree) -> Mem<Field> {
+    let name = Text::new(alloc, name)?;
+    Ok(Field { name, tree })
+}
+
+/// A struct of two fields.
+pub fn two_fields(alloc: Global, first: Field, second: Field) -> Mem<Tree> {
+    let mut fields = List::of(alloc, first)?;
+    fields.add(second)?;
+    Ok(Tree::Struct(fields))
+}
+
+/// A struct of one field.
+pub fn one_field(alloc: Global, only: Field) -> Mem<Tree> {
+    let fields = List::of(alloc, only)?;
+    Ok(Tree::Struct(fields))
+}
+
+/// A list of two elements.
+pub fn two_elements(alloc: Global, first: Tree, second: Tree) -> Mem<Tree> {
+    let mut elements = List::of(alloc, first)?;
+    elements.add(second)?;
+    Ok(Tree::Elements(elements))
+}
+
+/// An alternative.
+pub fn alternative(alloc: Global, name: &str, tree: Tree) -> Mem<Tree> {
+    let name = Text::new(alloc, name)?;
+    let tree = Box::new(alloc, tree)?;
+    Ok(Tree::Alternative(name, tree))
+}
