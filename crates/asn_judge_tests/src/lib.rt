@@ -9,3 +9,5 @@ mod parts;
 mod rows;
 #[cfg(test)]
 mod shapes;
+#[cfg(test)]
+mod values;
