@@ -1,5 +1,5 @@
 -- Characters of texts and of quadruples.
-use Rattle.std.proofs.Common.{◌≡◌, ℕ, ◌+◌, ◌*◌, ◌++◌, nat_eq, nat_le, nat_lt, Bool, true, false, if◌then◌else◌, List, [], ◌∷◌, Option, Some, None, refl, sym, ap, ◌∙◌, append-nil, arith}
+use Rattle.std.proofs.Common.{◌≡◌, ◌<◌, ◌≤◌, ℕ, ◌+◌, ◌*◌, length, ◌++◌, nat_eq, nat_le, nat_lt, Bool, true, false, if◌then◌else◌, List, [], ◌∷◌, Option, Some, None, refl, sym, ap, ◌∙◌, append-nil, arith}
 use Rattle.std.specs.Prelude.{ℤ, pos, negsuc, ◌&&◌, encode_utf8}
 use Rattle.std.specs.Char.{InScalarRange, OutOfScalarRange}
 use Rattle.std.specs.Str.{chars}
@@ -7,6 +7,8 @@ use Rattle.std.proofs.Math.Utf8.{scalar}
 use Rattle.std.proofs.lemmas.Bool.Decides.{nat_tests}
 use Rattle.std.proofs.lemmas.Str.{chars-encodes}
 use Rattle.asn_tree.specs.declared.values.ASN1Value.{ASN1Value}
+use Rattle.asn_heads.specs.declared.values.ValueForm.{ValueForm}
+use Rattle.asn_denotes.specs.Braces.{shown_values}
 use Rattle.asn_denotes.specs.Rows.{octet_number, quadruple_code}
 use Rattle.asn_notation.specs.Strings.{is_character}
 use Rattle.asn_meaning.specs.Answers.{once}
@@ -67,3 +69,18 @@ named_items items e = ap (λ vs. once None vs quadruple) e
 
 pub plain_items : (items : Items) (vs : List ASN1Value) → all_unnamed items ≡ Some vs → string_written (BracesWritten items) ≡ quadruple vs
 plain_items items vs e = ap (λ vs. once None vs quadruple) e
+
+pub too_few : (vs : List ValueForm) → length vs < 4 → quadruple (shown_values vs) ≡ None
+too_few [] lt = refl
+too_few (a ∷ []) lt = refl
+too_few (a ∷ b ∷ []) lt = refl
+too_few (a ∷ b ∷ c ∷ []) lt = refl
+too_few (a ∷ b ∷ c ∷ d ∷ vs) lt = absurd (omega (arith, lt))
+
+pub too_many : (vs : List ValueForm) → 5 ≤ length vs → quadruple (shown_values vs) ≡ None
+too_many [] le = absurd (omega (arith, le))
+too_many (a ∷ []) le = absurd (omega (arith, le))
+too_many (a ∷ b ∷ []) le = absurd (omega (arith, le))
+too_many (a ∷ b ∷ c ∷ []) le = absurd (omega (arith, le))
+too_many (a ∷ b ∷ c ∷ d ∷ []) le = absurd (omega (arith, le))
+too_many (a ∷ b ∷ c ∷ d ∷ e ∷ vs) le = refl
