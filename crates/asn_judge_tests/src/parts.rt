@@ -60,21 +60,52 @@ pub fn components_of(alloc: Global, name: &str) -> Mem<SequenceComponent> {
     Ok(SequenceComponent::ComponentsOf(name))
 }
 
-/// A SEQUENCE of two components, and an addition behind an extension marker, where there is one.
+/// Two components.
+pub fn two_components(
+    alloc: Global,
+    first: SequenceComponent,
+    second: SequenceComponent,
+) -> Mem<List<SequenceComponent>> {
+    let mut components = List::of(alloc, first)?;
+    components.add(second)?;
+    Ok(components)
+}
+
+/// A SEQUENCE of these components.
+fn sequence_of_all(alloc: Global, components: List<SequenceComponent>) -> Mem<ASN1Type> {
+    let made = SequenceOrSet::from_parts(alloc, (components, None, None), None)?;
+    Ok(ASN1Type::Sequence(made))
+}
+
+/// A SEQUENCE of these components and, behind an extension marker, these additions.
+fn extended_by_all(
+    alloc: Global,
+    components: List<SequenceComponent>,
+    additions: List<SequenceComponent>,
+) -> Mem<ASN1Type> {
+    let parts = (components, Some(ExtensionMarker()), Some(additions));
+    let made = SequenceOrSet::from_parts(alloc, parts, None)?;
+    Ok(ASN1Type::Sequence(made))
+}
+
+/// A SEQUENCE of two components.
 pub fn sequence(
     alloc: Global,
     first: SequenceComponent,
     second: SequenceComponent,
-    addition: Option<SequenceComponent>,
 ) -> Mem<ASN1Type> {
-    let mut components = List::of(alloc, first)?;
-    components.add(second)?;
-    let (marker, additions) = match addition {
-        None => (None, None),
-        Some(addition) => (Some(ExtensionMarker()), Some(List::of(alloc, addition)?)),
-    };
-    let made = SequenceOrSet::from_parts(alloc, (components, marker, additions), None)?;
-    Ok(ASN1Type::Sequence(made))
+    let components = two_components(alloc, first, second)?;
+    sequence_of_all(alloc, components)
+}
+
+/// A SEQUENCE of two components and, behind an extension marker, an addition.
+pub fn extended(
+    alloc: Global,
+    components: List<SequenceComponent>,
+    addition: SequenceComponent,
+) -> Mem<ASN1Type> {
+    let additions = List::of(alloc, addition)?;
+    extended_by_all(alloc, components, additions)
 }
 
 /// A SEQUENCE OF.

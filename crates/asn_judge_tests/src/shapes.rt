@@ -1,8 +1,8 @@
 //! Which trees fit which types.
 
 use crate::parts::{
-    alternative, boolean, choice, components_of, defined, field, integer, member, named, one_field,
-    sequence, sequence_of, two_elements, two_fields,
+    alternative, boolean, choice, components_of, defined, extended, field, integer, member, named,
+    one_field, sequence, sequence_of, two_components, two_elements, two_fields,
 };
 use crate::rows::first_wrong;
 use asn_heads::{Kind, Place, Scope, TypeForm, kind_of};
@@ -11,7 +11,7 @@ use asn_judge::{
     struct_members,
 };
 use asn_memory::{List, Mem};
-use asn_tree::{ASN1Type, ToplevelDefinition};
+use asn_tree::{SequenceComponent, SequenceOrSet, ToplevelDefinition};
 use std::alloc::Global;
 
 // E ::= SEQUENCE { a INTEGER, b BOOLEAN OPTIONAL, ..., e INTEGER }
@@ -20,22 +20,43 @@ use std::alloc::Global;
 // C ::= CHOICE { f F }
 // R ::= CHOICE { r R }
 fn definitions(alloc: Global) -> Mem<List<ToplevelDefinition>> {
+    let mut definitions = List::of(alloc, struct_e(alloc)?)?;
+    definitions.add(struct_f(alloc)?)?;
+    definitions.add(list_l(alloc)?)?;
+    definitions.add(choice_of(alloc, "C", "f", "F")?)?;
+    definitions.add(choice_of(alloc, "R", "r", "R")?)?;
+    Ok(definitions)
+}
+
+fn a_and_b(alloc: Global) -> Mem<List<SequenceComponent>> {
     let first = member(alloc, "a", integer(alloc), false)?;
     let second = member(alloc, "b", boolean(alloc), true)?;
+    two_components(alloc, first, second)
+}
+
+fn struct_e(alloc: Global) -> Mem<ToplevelDefinition> {
+    let components = a_and_b(alloc)?;
     let addition = member(alloc, "e", integer(alloc), false)?;
-    let ty = sequence(alloc, first, second, Some(addition))?;
-    let mut definitions = List::of(alloc, defined(alloc, "E", ty)?)?;
+    let ty = extended(alloc, components, addition)?;
+    defined(alloc, "E", ty)
+}
+
+fn struct_f(alloc: Global) -> Mem<ToplevelDefinition> {
     let put_in = components_of(alloc, "E")?;
     let last = member(alloc, "c", boolean(alloc), false)?;
-    let ty = sequence(alloc, put_in, last, None)?;
-    definitions.add(defined(alloc, "F", ty)?)?;
+    let ty = sequence(alloc, put_in, last)?;
+    defined(alloc, "F", ty)
+}
+
+fn list_l(alloc: Global) -> Mem<ToplevelDefinition> {
     let ty = sequence_of(alloc, named(alloc, "F")?)?;
-    definitions.add(defined(alloc, "L", ty)?)?;
-    let ty = choice(alloc, "f", named(alloc, "F")?)?;
-    definitions.add(defined(alloc, "C", ty)?)?;
-    let ty = choice(alloc, "r", named(alloc, "R")?)?;
-    definitions.add(defined(alloc, "R", ty)?)?;
-    Ok(definitions)
+    defined(alloc, "L", ty)
+}
+
+// The CHOICE of this name, whose one option has the type that a name stands for.
+fn choice_of(alloc: Global, name: &str, option: &str, ty: &str) -> Mem<ToplevelDefinition> {
+    let ty = choice(alloc, option, named(alloc, ty)?)?;
+    defined(alloc, name, ty)
 }
 
 // The answer for a type of the definitions within so many steps.
@@ -185,15 +206,10 @@ fn additions_stay_behind(rt: HostRuntime) {
 }
 
 fn no_steps_no_members(alloc: Global) -> Mem<bool> {
-    let first = member(alloc, "a", integer(alloc), false)?;
-    let second = member(alloc, "b", boolean(alloc), true)?;
-    match sequence(alloc, first, second, None)? {
-        ASN1Type::Sequence(layer) => {
-            let found = struct_members(alloc, &[], 0, &Scope::Empty, &layer)?;
-            Ok(found.is_none())
-        }
-        _ => Ok(false),
-    }
+    let components = a_and_b(alloc)?;
+    let layer = SequenceOrSet::from_parts(alloc, (components, None, None), None)?;
+    let found = struct_members(alloc, &[], 0, &Scope::Empty, &layer)?;
+    Ok(found.is_none())
 }
 
 fn parts_of_trees(alloc: Global) -> Mem<bool> {
