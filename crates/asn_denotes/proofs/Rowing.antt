@@ -8,7 +8,7 @@ use Rattle.asn_meaning.specs.ValueTrees.{ValueTree, Bits, Characters}
 use Rattle.asn_meaning.specs.Written.{Written, AllWritten, NullWritten, TruthWritten, NumberWritten, RealWritten, TextWritten, BitsWritten, BitNamesWritten, OctetsWritten, ArcsWritten, ItemWritten, NameWritten, BracesWritten, FieldsWritten, ElementsWritten, AlternativeWritten, NestedWritten}
 use Rattle.asn_kinds.specs.declared.types.DistinguishedValue.{DistinguishedValue}
 use Rattle.asn_denotes.specs.Bits.{bits_of_names, bits_written}
-use Rattle.asn_denotes.specs.Rows.{first_octet}
+use Rattle.asn_denotes.specs.inner.Rows.{first_octet}
 
 pub no_text : (w : Written) → text_written w ≡ None → text_row w ≡ None
 no_text w e = ap (λ s. once None s (λ s. Some (Characters s))) e

@@ -9,7 +9,7 @@ use Rattle.std.proofs.lemmas.Str.{chars-encodes}
 use Rattle.asn_tree.specs.declared.values.ASN1Value.{ASN1Value}
 use Rattle.asn_heads.specs.declared.values.ValueForm.{ValueForm}
 use Rattle.asn_denotes.specs.Braces.{shown_values}
-use Rattle.asn_denotes.specs.Rows.{octet_number, quadruple_code}
+use Rattle.asn_denotes.specs.inner.Rows.{octet_number, quadruple_code}
 use Rattle.asn_notation.specs.Strings.{is_character}
 use Rattle.asn_meaning.specs.Answers.{once}
 use Rattle.asn_meaning.specs.Braces.{all_unnamed}

@@ -1,3 +1,3 @@
 pub mod Bits
 pub mod Braces
-pub mod Rows
+pub mod inner

@@ -1,17 +1,17 @@
 //! Trees made of their parts, each with the value tree that it stands for.
 
-ghost use Rattle.asn_judge.specs.Trees.{shown_tree};
+ghost use Rattle.asn_shapes.specs.Trees.{shown_tree};
 ghost use Rattle.asn_meaning.specs.Rows.{arc_tree};
 ghost use Rattle.asn_meaning.specs.ValueTrees.{Bits, Characters, NullValue, ObjectIdentifierArcs, Octets, Opaque, RealNumber, TruthValue, WholeNumber};
 ghost use Rattle.std.specs.Prelude.{◌≡◌, map};
 ghost use Rattle.std.specs.Str.{chars};
 
-use asn_judge::Tree;
 use asn_memory::{List, Text};
+use asn_shapes::Tree;
 use asn_tree::{ObjectIdentifierValue, RealValue};
 
 /// The value of NULL.
-#[tactic(auto, using(asn_judge::proofs::Showing::null_shown))]
+#[tactic(auto, using(asn_shapes::proofs::Showing::null_shown))]
 pub fn null_tree() -> Tree
     ensures { shown_tree result ≡ NullValue }
 {
@@ -19,7 +19,7 @@ pub fn null_tree() -> Tree
 }
 
 /// A truth value.
-#[tactic(auto, using(asn_judge::proofs::Showing::truth_shown))]
+#[tactic(auto, using(asn_shapes::proofs::Showing::truth_shown))]
 pub fn truth_tree(truth: bool) -> Tree
     ensures { shown_tree result ≡ TruthValue truth }
 {
@@ -27,7 +27,7 @@ pub fn truth_tree(truth: bool) -> Tree
 }
 
 /// A whole number.
-#[tactic(auto, using(asn_judge::proofs::Showing::whole_shown))]
+#[tactic(auto, using(asn_shapes::proofs::Showing::whole_shown))]
 pub fn whole_tree(number: i128) -> Tree
     ensures { shown_tree result ≡ WholeNumber number }
 {
@@ -35,7 +35,7 @@ pub fn whole_tree(number: i128) -> Tree
 }
 
 /// A real.
-#[tactic(auto, using(asn_judge::proofs::Showing::real_shown))]
+#[tactic(auto, using(asn_shapes::proofs::Showing::real_shown))]
 pub fn real_tree(real: RealValue) -> Tree
     ensures { shown_tree result ≡ RealNumber real.mantissa real.base real.exponent }
 {
@@ -43,7 +43,7 @@ pub fn real_tree(real: RealValue) -> Tree
 }
 
 /// A string of bits.
-#[tactic(auto, using(asn_judge::proofs::Showing::bits_shown))]
+#[tactic(auto, using(asn_shapes::proofs::Showing::bits_shown))]
 pub fn bits_tree(bits: List<bool>) -> Tree
     ensures { shown_tree result ≡ Bits bits }
 {
@@ -51,7 +51,7 @@ pub fn bits_tree(bits: List<bool>) -> Tree
 }
 
 /// A string of octets.
-#[tactic(auto, using(asn_judge::proofs::Showing::octets_shown))]
+#[tactic(auto, using(asn_shapes::proofs::Showing::octets_shown))]
 pub fn octets_tree(octets: List<u8>) -> Tree
     ensures { shown_tree result ≡ Octets octets }
 {
@@ -59,7 +59,7 @@ pub fn octets_tree(octets: List<u8>) -> Tree
 }
 
 /// A text.
-#[tactic(auto, using(asn_judge::proofs::Showing::text_shown))]
+#[tactic(auto, using(asn_shapes::proofs::Showing::text_shown))]
 pub fn text_tree(text: Text) -> Tree
     ensures { shown_tree result ≡ Characters (chars text) }
 {
@@ -67,7 +67,7 @@ pub fn text_tree(text: Text) -> Tree
 }
 
 /// An object identifier.
-#[tactic(auto, using(asn_judge::proofs::Showing::arcs_shown))]
+#[tactic(auto, using(asn_shapes::proofs::Showing::arcs_shown))]
 pub fn identifier_tree(identifier: ObjectIdentifierValue) -> Tree
     ensures { shown_tree result ≡ ObjectIdentifierArcs (map arc_tree identifier.0) }
 {
@@ -75,7 +75,7 @@ pub fn identifier_tree(identifier: ObjectIdentifierValue) -> Tree
 }
 
 /// A value of which nothing is known.
-#[tactic(auto, using(asn_judge::proofs::Showing::opaque_shown))]
+#[tactic(auto, using(asn_shapes::proofs::Showing::opaque_shown))]
 pub fn opaque_tree() -> Tree
     ensures { shown_tree result ≡ Opaque }
 {

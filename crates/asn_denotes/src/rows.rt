@@ -2,8 +2,8 @@
 
 ghost use Rattle.asn_heads.specs.Kinds.{shown_kind};
 ghost use Rattle.asn_heads.specs.Written.{shown_written};
-ghost use Rattle.asn_denotes.specs.Rows.{first_octet};
-ghost use Rattle.asn_judge.specs.Trees.{shown_tree};
+ghost use Rattle.asn_denotes.specs.inner.Rows.{first_octet};
+ghost use Rattle.asn_shapes.specs.Trees.{shown_tree};
 ghost use Rattle.asn_meaning.specs.Rows.{arcs_row, bit, bits_row, null_row, number_row, number_written, octet, octets_of, octets_row, real_row, row, string_row, text_row, text_written, truth_row};
 ghost use Rattle.asn_meaning.specs.Members.{named};
 ghost use Rattle.std.specs.Option.{option_copied, option_map};
@@ -17,8 +17,8 @@ use crate::making::{
 };
 use crate::texts::string_written;
 use asn_heads::{Kind, Written};
-use asn_judge::Tree;
 use asn_memory::{List, Mem, Text};
+use asn_shapes::Tree;
 use asn_tree::{DistinguishedValue, ObjectIdentifierArc, ObjectIdentifierValue, RealValue};
 use std::alloc::Global;
 

@@ -7,6 +7,5 @@ pub mod Lists
 pub mod Classes
 pub mod Values
 pub mod Objects
-pub mod Tokens
-pub mod Following
 pub mod Leads
+pub mod inner

@@ -1,7 +1,7 @@
 //! The fields of classes, and the types that they have (X.681 9, 14).
 
 ghost use Rattle.asn_notation.specs.Paths.{field_name};
-ghost use Rattle.asn_heads.specs.Classes.{field_ty, kind_names_class, path_type, shown_field_type};
+ghost use Rattle.asn_heads.specs.Classes.{field_ty, kind_names_class, path_type, shown_field_type, type_in_class};
 ghost use Rattle.asn_heads.specs.Definitions.{shown_class};
 ghost use Rattle.asn_heads.specs.Kinds.{shown_kind, shown_reference, shown_type};
 ghost use Rattle.asn_heads.specs.Scopes.{shown};
@@ -136,6 +136,20 @@ fn fixed_or_open<'a>(
             }
         }
     }
+}
+
+/// What the type of a class's field is, by the field's name with its `&` (X.681 14.2). None where the class has no such field, and
+/// where the field's type is a class's name.
+#[tactic(auto, using(crate::proofs::Fields::no_such_field, crate::proofs::Fields::such_field))]
+pub fn type_in_class<'a>(
+    definitions: &[ToplevelDefinition],
+    class: Class<'a>,
+    name: &str,
+) -> Option<FieldType<'a>>
+    ensures { option_map shown_field_type result ≡ type_in_class definitions.now (shown_class class.entry) name.now }
+{
+    let ty = field_type(class, name)?;
+    fixed_or_open(definitions, ty)
 }
 
 /// The type of the field that a path ends at, where each of its names is a field of this class, and where that field

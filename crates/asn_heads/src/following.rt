@@ -1,9 +1,9 @@
 //! Objects in their class's own syntax, item by item (X.681 10.12, 11.6).
 
 ghost use Rattle.asn_heads.specs.Definitions.{shown_class};
-ghost use Rattle.asn_heads.specs.Following.{at_first, earlier, ended, named, shown_fields, shown_walk, walked};
+ghost use Rattle.asn_heads.specs.inner.Following.{at_first, earlier, ended, named, shown_fields, shown_walk, walked};
 ghost use Rattle.asn_heads.specs.Objects.{shown_given};
-ghost use Rattle.asn_heads.specs.Tokens.{marked_by, shown_behind, shown_token, tokens_by};
+ghost use Rattle.asn_heads.specs.inner.Tokens.{marked_by, shown_behind, shown_token, tokens_by};
 ghost use Rattle.asn_meaning.specs.Answers.{once};
 ghost use Rattle.asn_meaning.specs.Definitions.{type_identifier};
 ghost use Rattle.asn_meaning.specs.Objects.{applied, begins, follow_each, if_ended, optional_tokens, part_of, take_item};

@@ -33,7 +33,7 @@ pub use kinds::{Kind, Reference, TypeForm, kind_of, kind_of_tree};
 pub use leads::{Lead, head, head_named, lead_of};
 pub use lists::{ArgumentLists, argument_lists};
 pub use names::{dummy_target, name_target, reference_target};
-pub use objects::{GivenField, Gives, field_target, given, object_field};
+pub use objects::{GivenField, Gives, field_target, given, object_field, object_field_type};
 pub use places::{Place, Target};
 pub use scopes::{Argument, Bound, Scope, with_argument};
 pub use templates::{entered, instance};

@@ -1,9 +1,10 @@
 //! What objects give for the fields of their class (X.681 11).
 
+ghost use Rattle.asn_heads.specs.Classes.{shown_field_type};
 ghost use Rattle.asn_heads.specs.Objects.{shown_given};
 ghost use Rattle.asn_heads.specs.Places.{shown_target};
 ghost use Rattle.asn_heads.specs.Scopes.{shown};
-ghost use Rattle.asn_meaning.specs.Names.{field_target, marked, object_field, type_of_field};
+ghost use Rattle.asn_meaning.specs.Names.{field_target, marked, object_field, object_field_type, type_of_field};
 ghost use Rattle.asn_meaning.specs.Objects.{given};
 ghost use Rattle.asn_notation.specs.Syntax.{given_name};
 ghost use Rattle.asn_tree.specs.declared.objects.InformationObjectField.{out-InformationObjectField};
@@ -12,6 +13,7 @@ ghost use Rattle.std.specs.Option.{option_copied, option_map};
 ghost use Rattle.std.specs.Prelude.{◌≡◌, IfOk};
 ghost use Rattle.std.specs.Str.{bytes_eq};
 
+use crate::classes::{FieldType, type_in_class};
 use crate::definitions::{class_named, object_named};
 use crate::following::applied;
 use crate::kinds::TypeForm;
@@ -146,6 +148,28 @@ pub fn object_field<'a>(
         Some(object) => {
             let marked = marked(alloc, field)?;
             Ok(given(definitions, object, marked.as_str()))
+        }
+    }
+}
+
+/// What the type of the field of an object is, by the field's name without its `&` (X.681 14.2). None where the object's class is
+/// missing or has no such field, and where the field's type is a class's name.
+///
+/// Err: want of memory.
+#[tactic(auto, using(crate::proofs::Giving::type_of_classless, crate::proofs::Giving::type_of_classed))]
+pub fn object_field_type<'a>(
+    alloc: Global,
+    definitions: &'a [ToplevelDefinition],
+    object: &InformationObject,
+    field: &str,
+) -> Mem<Option<FieldType<'a>>>
+    ensures { IfOk result (λ ty. option_map shown_field_type ty ≡ object_field_type definitions.now object.now field.now) }
+{
+    match class_named(definitions, object.class_name.as_str()) {
+        None => Ok(None),
+        Some(class) => {
+            let marked = marked(alloc, field)?;
+            Ok(type_in_class(definitions, class, marked.as_str()))
         }
     }
 }

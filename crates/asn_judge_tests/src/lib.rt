@@ -1,6 +1,6 @@
 //! Tests of the plain program that computes meaning: types, trees, and what the standard says of them.
 //!
-//! A room above asn_judge, which nothing stands on. One module for each topic.
+//! A room above asn_shapes, which nothing stands on. One module for each topic.
 #![tactic(auto)]
 
 #[cfg(test)]

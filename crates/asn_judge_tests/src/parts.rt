@@ -1,8 +1,8 @@
 //! What tests of several modules are made of: small types and trees.
 
-use asn_judge::{Field, Tree};
 use asn_markers::ExtensionMarker;
 use asn_memory::{Box, List, Mem, Text};
+use asn_shapes::{Field, Tree};
 use asn_tree::{
     ASN1Type, Boolean, Choice, ChoiceOption, DeclarationElsewhere, Integer, SequenceComponent,
     SequenceOrSet, SequenceOrSetMember, SequenceOrSetOf, ToplevelDefinition,

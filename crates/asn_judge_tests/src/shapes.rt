@@ -6,11 +6,11 @@ use crate::parts::{
 };
 use crate::rows::first_wrong;
 use asn_heads::{Kind, Place, Scope, TypeForm, kind_of};
-use asn_judge::{
+use asn_memory::{List, Mem};
+use asn_shapes::{
     Answer, Tree, alternative_of, elements_of, fields_of, fits, is_of_kind, members_of,
     struct_members,
 };
-use asn_memory::{List, Mem};
 use asn_tree::{SequenceComponent, SequenceOrSet, ToplevelDefinition};
 use std::alloc::Global;
 

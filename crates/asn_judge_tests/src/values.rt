@@ -6,8 +6,8 @@ use asn_denotes::{
     bits_written, elements_written, fields_written, number_written, row, string_written,
 };
 use asn_heads::{Kind, Written};
-use asn_judge::{Tree, View};
 use asn_memory::{Box, List, Mem, Text};
+use asn_shapes::{Tree, View};
 use asn_tree::{ASN1Value, CharacterStringType, DistinguishedValue, ObjectIdentifierArc};
 use std::alloc::Global;
 

@@ -1,7 +1,7 @@
 use Rattle.std.proofs.Common.{◌≡◌, ◌+◌, ◌*◌, ◌/◌, ◌%◌, ◌<◌, ap, arith, drop, length, refl, sym, ◌∙◌}
 use Rattle.asn_denotes.proofs.Listing.{before}
 use Rattle.asn_denotes.proofs.Rowing.{octets_lost, octets_next, octets_short}
-use Rattle.asn_denotes.specs.Rows.{first_octet}
+use Rattle.asn_denotes.specs.inner.Rows.{first_octet}
 use Rattle.asn_meaning.specs.Rows.{octets_of}
 use Rattle.asn_denotes.proofs.rows.octets_of.Goals as goal
 

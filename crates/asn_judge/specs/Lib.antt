@@ -1,5 +1,0 @@
-pub mod Answers
-pub mod Trees
-pub mod Members
-pub mod Parts
-pub mod Fitting

@@ -1,0 +1,5 @@
+pub mod Answers
+pub mod Trees
+pub mod Members
+pub mod Parts
+pub mod inner
