@@ -35,7 +35,7 @@ pub use laws::{
 };
 pub use members::{IterNameTypes, NameTypes};
 pub use paths::{InformationObjectFieldReferenceCalls, ObjectFieldIdentifierCalls};
-pub use strings::CharacterStringTypeCalls;
+pub use strings::{CharacterStringTypeCalls, characters};
 pub use syntax::{
     InformationObjectFieldCalls, InformationObjectSyntaxCalls, SyntaxApplicationCalls,
     SyntaxTokenCalls,

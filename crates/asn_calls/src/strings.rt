@@ -26,7 +26,10 @@ impl CharacterStringTypeCalls for CharacterStringType {
     }
 }
 
-fn characters(alloc: Global, ty: CharacterStringType) -> Mem<List<char>>
+/// The characters of a character string type in the order of their numbers (X.680 clause 41).
+///
+/// Err: want of memory.
+pub fn characters(alloc: Global, ty: CharacterStringType) -> Mem<List<char>>
     ensures { IfOk result (λ list. list ≡ characters ty) }
 {
     match ty {
