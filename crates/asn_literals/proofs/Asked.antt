@@ -11,7 +11,7 @@ use Rattle.asn_rules.specs.ConstraintRules.{constraint_rules_before}
 use Rattle.asn_rules.specs.ObjectRules.{object_rules_before}
 use Rattle.asn_rules.specs.HeaderRules.{header_rules_before}
 use Rattle.asn_rules.specs.DefinitionRules.{definition_rules_before}
-use Rattle.asn_rules.specs.declared.expression.Guard.TheVariants.{FitsU64, FitsU128, FitsI128, FitsI32, FitsReal, IsBase, IsCharacter}
+use Rattle.asn_guards.specs.declared.asked.Guard.TheVariants.{FitsU64, FitsU128, FitsI128, FitsI32, FitsReal, IsBase, IsCharacter}
 use Rattle.asn_rules.specs.declared.names.TheConstants.{BINARY, BOOLEAN_VALUE, DOT_NOTATION, HEXADECIMAL, IDENTIFIER, INTEGER_VALUE, MARK_FALSE, MARK_TRUE, MBE_NOTATION, NUMBER_I32, NUMBER_I128, NUMBER_U64, NUMBER_U128, PATH_STEP, QUADRUPLE, QUOTED, QUOTED_BODY, REAL_BASE, SP, TIME_CHARS, TIME_VALUE, VALUE_IDENTIFIER}
 use Rattle.asn_rules.proofs.Children.{asks, counts}
 

@@ -1,7 +1,7 @@
 -- The four octets of a character are there, where they tell one.
 use Rattle.std.proofs.Common.{◌≡◌, ℕ, List, true, Option, Some, None, refl, subst}
 use Rattle.std.specs.Option.{is_some}
-use Rattle.asn_rules.specs.Guards.{behind, four_octets, is_scalar, is_scalar_of, octet, with_octet}
+use Rattle.asn_guards.specs.Guards.{behind, four_octets, is_scalar, is_scalar_of, octet, with_octet}
 
 all_there : (a b c d : Option ℕ) → is_scalar_of (with_octet (with_octet (with_octet a b) c) d) ≡ true → (is_some a ≡ true) × (is_some b ≡ true) × (is_some c ≡ true) × (is_some d ≡ true)
 all_there None b c d e = absurd cc

@@ -9,7 +9,7 @@ use Rattle.asn_rules.specs.Runs.{Runs, ends}
 use Rattle.asn_rules.specs.Whole.{whole_rules}
 use Rattle.asn_rules.specs.Children.{StandsBy, Is}
 use Rattle.asn_rules.specs.Nodes.{child_among, child_of}
-use Rattle.asn_rules.specs.declared.expression.Guard.TheVariants.{FitsU64, FitsU128, FitsI128, FitsI32, FitsReal, IsBase, IsCharacter}
+use Rattle.asn_guards.specs.declared.asked.Guard.TheVariants.{FitsU64, FitsU128, FitsI128, FitsI32, FitsReal, IsBase, IsCharacter}
 use Rattle.asn_rules.specs.declared.names.TheConstants.{BINARY, BOOLEAN_VALUE, DOT_NOTATION, HEXADECIMAL, IDENTIFIER, INTEGER_VALUE, MARK_FALSE, MARK_TRUE, MBE_NOTATION, NUMBER_I32, NUMBER_I128, NUMBER_U64, NUMBER_U128, PATH_STEP, QUADRUPLE, QUOTED, QUOTED_BODY, REAL_BASE, SP, TIME_CHARS, TIME_VALUE, VALUE_IDENTIFIER}
 use Rattle.asn_rules.specs.declared.node.Node.{Node}
 use Rattle.asn_rules.specs.declared.node.Node.TheViews.{out-Node, out-roll-Node}
@@ -19,7 +19,7 @@ use Rattle.asn_literals.proofs.Asked as asked
 use Rattle.asn_literals.specs.Reals.{decimals}
 use Rattle.std.specs.Option.{is_some}
 use Rattle.asn_literals.specs.Parts.{integer_of, natural_of, taken}
-use Rattle.asn_rules.specs.Guards.{bare, behind, behind_exponent_mark, exponent, fits_less, four_octets, is_base_of, is_real, is_scalar_of, mantissa, natural, number}
+use Rattle.asn_guards.specs.Guards.{bare, behind, behind_exponent_mark, exponent, fits_less, four_octets, is_base_of, is_real, is_scalar_of, mantissa, natural, number}
 
 -- a node that stands is one of its rule
 pub as_rule : (text : List ℕ) (r : ℕ) (n : Node) → StandsBy whole_rules text n → (out-Node n).rule ≡ r → Is whole_rules text r n

@@ -1,7 +1,7 @@
 -- The bits of a value (X.680 22.9).
 use Rattle.std.specs.Prelude.{ℕ, List, [], ◌∷◌, ◌++◌, Bool, true, false, ◌||◌, nat_eq, cond, Option, Some}
-use Rattle.asn_rules.specs.Lexical.{in_class}
-use Rattle.asn_rules.specs.declared.expression.ByteClass.TheVariants.{Digit, HexLetter}
+use Rattle.asn_guards.specs.Lexical.{in_class}
+use Rattle.asn_guards.specs.declared.asked.ByteClass.TheVariants.{Digit, HexLetter}
 use Rattle.asn_rules.specs.declared.names.TheConstants.{NAME_LIST, VALUE_IDENTIFIER}
 use Rattle.asn_rules.specs.declared.node.Node.{Node}
 use Rattle.asn_rules.specs.declared.node.Node.TheViews.{out-Node}

@@ -5,7 +5,7 @@ use Rattle.std.specs.Str.Lossy.{utf8_lossy}
 use Rattle.asn_rules.specs.declared.names.TheConstants.{MARK_FALSE, MARK_TRUE, NUMBER_I128, SP}
 use Rattle.asn_rules.specs.declared.node.Node.{Node}
 use Rattle.asn_rules.specs.declared.node.Node.TheViews.{out-Node}
-use Rattle.asn_rules.specs.Guards.{bare, integer, natural}
+use Rattle.asn_guards.specs.Guards.{bare, integer, natural}
 use Rattle.asn_rules.specs.Nodes.{at_child, child_of, the}
 
 -- what is made of a value that is there

@@ -1,6 +1,6 @@
 -- Real numbers (X.680 21.5, 21.6).
 use Rattle.std.specs.Prelude.{ℕ, ℤ, pos, ◌-ℤ◌, List, length, Option, Some}
-use Rattle.asn_rules.specs.Guards.{bare, behind, behind_exponent_mark, exponent, mantissa, natural, number}
+use Rattle.asn_guards.specs.Guards.{bare, behind, behind_exponent_mark, exponent, mantissa, natural, number}
 use Rattle.asn_rules.specs.declared.names.TheConstants.{NUMBER_I32, NUMBER_I128, REAL_BASE}
 use Rattle.asn_rules.specs.declared.node.Node.{Node}
 use Rattle.asn_rules.specs.Nodes.{child_of, the}

@@ -3,7 +3,7 @@ use Rattle.std.specs.Prelude.{ℕ, List, [], ◌∷◌, Bool, false, ◌&&◌, n
 use Rattle.std.specs.Str.Lossy.{utf8_lossy}
 use Rattle.asn_rules.specs.declared.names.TheConstants.{QUOTED_BODY, TIME_CHARS}
 use Rattle.asn_rules.specs.declared.node.Node.{Node}
-use Rattle.asn_rules.specs.Guards.{bare, behind, four_octets}
+use Rattle.asn_guards.specs.Guards.{bare, behind, four_octets}
 use Rattle.asn_rules.specs.Nodes.{child_of, the}
 use Rattle.asn_literals.specs.Parts.{of_some, taken}
 

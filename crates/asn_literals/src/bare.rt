@@ -2,7 +2,7 @@
 
 ghost use Rattle.std.specs.Prelude.{◌≡◌, ◌≤◌, length, drop, IfOk, true, Some};
 ghost use Rattle.std.specs.Option.{is_some};
-ghost use Rattle.asn_rules.specs.Guards.{bare, before, behind, number};
+ghost use Rattle.asn_guards.specs.Guards.{bare, before, behind, number};
 
 use asn_memory::{List, Mem};
 use asn_rules::{next_bare, whole_number};

@@ -4,7 +4,7 @@ ghost use Rattle.asn_literals.specs.Parts.{integer_of, natural_of, number_of, ta
 ghost use Rattle.asn_rules.specs.Children.{Is, StandsBy};
 ghost use Rattle.asn_rules.specs.Whole.{whole_rules};
 ghost use Rattle.asn_rules.specs.declared.names.TheConstants.{INTEGER_VALUE, NUMBER_I32, NUMBER_I128, NUMBER_U64, NUMBER_U128};
-ghost use Rattle.asn_rules.specs.Guards.{bare, integer, natural};
+ghost use Rattle.asn_guards.specs.Guards.{bare, integer, natural};
 ghost use Rattle.std.specs.Option.{is_some};
 ghost use Rattle.std.specs.Prelude.{◌≡◌, true, Some};
 
@@ -27,7 +27,7 @@ pub fn read_i128(text: &[u8], node: &Node) -> i128
     whole_number(bytes_of(text, node)).unwrap()
 }
 
-#[tactic(auto, using(asn_rules::proofs::Numbers::integer_narrowed))]
+#[tactic(auto, using(asn_guards::proofs::Numbers::integer_narrowed))]
 fn i32_of(digits: &[u8]) -> i32
     requires { is_some (integer 31 (bare digits.now)) ≡ true }
     ensures { integer 31 (bare digits.now) ≡ Some result }
@@ -47,7 +47,7 @@ pub fn read_i32(text: &[u8], node: &Node) -> i32
     i32_of(bytes_of(text, node))
 }
 
-#[tactic(auto, using(asn_rules::proofs::Numbers::natural_below))]
+#[tactic(auto, using(asn_guards::proofs::Numbers::natural_below))]
 fn u64_of(digits: &[u8]) -> u64
     requires { is_some (natural 64 (bare digits.now)) ≡ true }
     ensures { natural 64 (bare digits.now) ≡ Some result }

@@ -3,7 +3,7 @@
 ghost use Rattle.asn_literals.specs.Parts.{taken};
 ghost use Rattle.asn_literals.specs.Reals.{base_of, decimal_by, decimal_of, decimals, parts_of};
 ghost use Rattle.asn_rules.specs.Children.{Is};
-ghost use Rattle.asn_rules.specs.Guards.{bare, behind_exponent_mark, exponent, fits_less, is_base_of, is_exponent_mark, is_real, mantissa, natural};
+ghost use Rattle.asn_guards.specs.Guards.{bare, behind_exponent_mark, exponent, fits_less, is_base_of, is_exponent_mark, is_real, mantissa, natural};
 ghost use Rattle.asn_rules.specs.Whole.{whole_rules};
 ghost use Rattle.asn_rules.specs.declared.names.TheConstants.{DOT_NOTATION, MBE_NOTATION, REAL_BASE};
 ghost use Rattle.std.specs.Option.{is_some};

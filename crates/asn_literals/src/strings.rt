@@ -4,7 +4,7 @@ ghost use Rattle.asn_literals.specs.Strings.{character_by, quadruple_of, quoted_
 ghost use Rattle.asn_rules.specs.Children.{Is};
 ghost use Rattle.asn_rules.specs.Whole.{whole_rules};
 ghost use Rattle.asn_rules.specs.declared.names.TheConstants.{QUADRUPLE, QUOTED, TIME_VALUE};
-ghost use Rattle.asn_rules.specs.Guards.{bare, four_octets, is_character, is_scalar, is_scalar_of, natural, octet};
+ghost use Rattle.asn_guards.specs.Guards.{bare, four_octets, is_character, is_scalar, is_scalar_of, natural, octet};
 ghost use Rattle.std.specs.Option.{is_some};
 ghost use Rattle.std.specs.Prelude.{◌≡◌, encode_utf8, true, IfOk, Some};
 
@@ -53,7 +53,7 @@ pub fn read_time(alloc: Global, text: &[u8], node: &Node) -> Mem<Text>
 }
 
 /// The octet that digits spell.
-#[tactic(auto, using(asn_rules::proofs::Numbers::octet_below))]
+#[tactic(auto, using(asn_guards::proofs::Numbers::octet_below))]
 fn octet_of(digits: &[u8]) -> u8
     requires { is_some (natural 8 (bare digits.now)) ≡ true }
     ensures { natural 8 (bare digits.now) ≡ Some result }

@@ -18,7 +18,7 @@ use Rattle.asn_modules.specs.Types.{IsType, is_type}
 use Rattle.asn_modules.specs.Whole.{IsNodeBy}
 use Rattle.std.specs.Prelude.{codes}
 use Rattle.asn_rules.specs.Forms.{◌·◌, literal, maybe, sp}
-use Rattle.asn_rules.specs.declared.expression.Guard.TheVariants.{FitsI128}
+use Rattle.asn_guards.specs.declared.asked.Guard.TheVariants.{FitsI128}
 
 -- a node that stands is one of its rule
 pub as_rule : (text : List ℕ) (r : ℕ) (n : Node) → StandsBy first text n → (out-Node n).rule ≡ r → Is first text r n

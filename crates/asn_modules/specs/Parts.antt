@@ -4,7 +4,7 @@ use Rattle.std.specs.Str.Lossy.{utf8_lossy}
 use Rattle.asn_rules.specs.declared.names.TheConstants.{INTEGER_VALUE, NUMBER_I128, SP}
 use Rattle.asn_rules.specs.declared.node.Node.{Node}
 use Rattle.asn_rules.specs.declared.node.Node.TheViews.{out-Node}
-use Rattle.asn_rules.specs.Guards.{bare, number}
+use Rattle.asn_guards.specs.Guards.{bare, number}
 use Rattle.asn_rules.specs.Nodes.{child_of, the}
 
 -- A name is its slice of the text without the blanks before it (X.680 12.2, 12.3).

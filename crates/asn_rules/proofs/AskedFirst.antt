@@ -5,7 +5,7 @@ use Rattle.asn_rules.specs.Expression.{rule_of, guarded, rule}
 use Rattle.asn_rules.specs.Forms.{◌·◌, sp, maybe, literal}
 use Rattle.asn_rules.specs.LexicalRules.{lexical_rules_before}
 use Rattle.asn_rules.specs.First.{first, further}
-use Rattle.asn_rules.specs.declared.expression.Guard.TheVariants.{FitsI128}
+use Rattle.asn_guards.specs.declared.asked.Guard.TheVariants.{FitsI128}
 use Rattle.asn_rules.specs.declared.names.TheConstants.{ASN1_TYPE, ASN1_VALUE, ASN_MODULE, ASSIGNMENT, BOOLEAN, COMPONENT_LIST, CONSTRAINT, DEFINITION, ELSEWHERE_DECLARED_TYPE, ENVIRONMENTS, IDENTIFIER, INTEGER, INTEGER_VALUE, MARK_AUTOMATIC, MARK_EXPLICIT, MARK_IMPLICIT, MODULE_REFERENCE, NUMBER_I128, SEQUENCE, SEQUENCE_COMPONENT, SEQUENCE_OR_SET_MEMBER, SP, STRUCT_BODY, TAG_DEFAULT, TITLE_CASE_IDENTIFIER, TOP_LEVEL_TYPE_DECLARATION, VALUE_RANGE}
 use Rattle.asn_rules.proofs.Children.{words_of, asks, asks_more, counts, is_among}
 

@@ -4,13 +4,6 @@ pub mod Ranks
 pub mod Total
 pub mod Trees
 pub mod Nodes
-pub mod Bare
-pub mod Items
-pub mod Numbered
-pub mod Exact
-pub mod FarNumbers
-pub mod Numbers
-pub mod SettingTexts
 pub mod Walks
 pub mod Shape
 pub mod Shapes

@@ -4,10 +4,11 @@ use Rattle.std.specs.Prelude.{nat_lt, ◌&&◌, ◌||◌, not, if◌then◌else�
 use Rattle.std.proofs.lemmas.Bool.{cases_lt}
 use Rattle.std.proofs.lemmas.Bool.Decides.{Decides-ltb}
 use Rattle.asn_rules.specs.Expression.{Expression, see, marked, seq, choice, many, never, guarded, rule, skip, Sight, rule_of}
-use Rattle.asn_rules.specs.Lexical.{stands, width}
-use Rattle.asn_rules.specs.Allows.{allows}
+use Rattle.asn_guards.specs.Lexical.{stands, width}
+use Rattle.asn_guards.specs.Allows.{allows}
 use Rattle.asn_rules.specs.Runs.{Ending, ends, fails, seen, judged, Runs, sees, sees_mark, seq_ends, seq_fails, choice_first, choice_second, many_turn, many_idle, many_fails, never_ends, never_fails, guard_judges, guard_fails, calls, skips, ExactlyOne}
-use Rattle.asn_rules.specs.declared.expression.Guard.{Guard}
+use Rattle.asn_guards.specs.declared.asked.Guard.{Guard}
+use Rattle.asn_guards.proofs.Booleans.{and_both, or_either}
 use Rattle.asn_rules.proofs.Theory.{Lies, runs_lies, one_outcome}
 
 -- each end of the expression takes a byte, where each end of the rules in the table does
@@ -39,14 +40,6 @@ abbrev pub checked : List Bool → List ℕ → List Expression → List Bool �
 checked t ranks (e ∷ es) (b ∷ bs) (k ∷ ks) = (not b || takes_byte t e) && (ranks_below t ranks k e && checked t ranks es bs ks)
 checked t ranks [] [] [] = true
 checked t ranks _ _ _ = false
-
-pub and_both : (a b : Bool) → (a && b) ≡ true → (a ≡ true) × (b ≡ true)
-and_both true b e = (refl, e)
-and_both false b e = absurd cc
-
-pub or_either : (a b : Bool) → (a || b) ≡ true → (a ≡ true) ⊎ (b ≡ true)
-or_either true b e = inl refl
-or_either false b e = inr e
 
 -- what a right row says
 abbrev Right : List Bool → List ℕ → Expression → Bool → ℕ → Type 0

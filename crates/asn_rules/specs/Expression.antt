@@ -1,18 +1,10 @@
 -- Expressions of an ordered grammar (B. Ford, Parsing Expression Grammars, 2004), and how those of the code read as these.
 use Rattle.std.specs.Prelude.{ℕ, ◌+◌, List, [], get_or}
-use Rattle.asn_rules.specs.declared.expression.ByteClass.{ByteClass}
-use Rattle.asn_rules.specs.declared.expression.Guard.{Guard}
+pub use Rattle.asn_guards.specs.Lexical.{Sight, bytes, word, one_of, sight}
+use Rattle.asn_guards.specs.declared.asked.Guard.{Guard}
 use Rattle.asn_rules.specs.declared.marks.Mark.{Mark}
-use Rattle.asn_rules.specs.declared.expression.Sight as code
-use Rattle.asn_rules.specs.declared.expression.Sight.TheVariants.{Bytes, Word, OneOf}
 use Rattle.asn_rules.specs.declared.expression.Expression as coded
 use Rattle.asn_rules.specs.declared.expression.Expression.TheVariants.{See, Marked, Call, Skip, Sequence', Choice', Many', Not', Guarded'}
-
--- what can stand at an offset: these bytes, these as a whole word, one byte of a class
-pub data Sight : Type 0 where
-  bytes : List ℕ → Sight
-  word : List ℕ → Sight
-  one_of : ByteClass → Sight
 
 -- `marked` sees as `see` does, and leaves a leaf with the number of its mark; `skip` is a call of a rule that leaves no node
 pub data Expression : Type 0 where
@@ -27,11 +19,6 @@ pub data Expression : Type 0 where
   skip : ℕ → Expression
 
 -- The code's, without its pointers.
-abbrev pub sight : code.Sight → Sight
-sight (Bytes b) = bytes b.now
-sight (Word w) = word w.now
-sight (OneOf c) = one_of c
-
 abbrev pub expression : coded.Expression → Expression
 expression (See s) = see (sight s)
 expression (Marked m s) = marked m (sight s)

@@ -4,7 +4,7 @@ use Rattle.asn_rules.specs.Expression.{Expression, many, never, guarded, rule}
 use Rattle.asn_rules.specs.declared.marks.Mark.TheVariants as mark
 use Rattle.asn_rules.specs.Forms.{any, keyword, maybe, no_rule, some, sp, symbol, whole_as, words, ◌¦◌, ◌·◌}
 use Rattle.asn_rules.specs.LexicalRules.{lexical_rules_before}
-use Rattle.asn_rules.specs.declared.expression.Guard.TheVariants.{IsOrdered}
+use Rattle.asn_guards.specs.declared.asked.Guard.TheVariants.{IsOrdered}
 
 -- rules 23 to 190
 unfoldable pub further : List Expression

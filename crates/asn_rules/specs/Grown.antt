@@ -7,7 +7,7 @@ use Rattle.asn_rules.specs.Runs.{Ending, ends, fails, seen, judged, Answer}
 use Rattle.asn_rules.specs.Derives.{node}
 use Rattle.asn_rules.specs.declared.run.Outcome.TheVariants as outcome
 use Rattle.asn_rules.specs.declared.run.MatchFault.TheVariants as fault
-use Rattle.asn_rules.specs.declared.expression.Guard.{Guard}
+use Rattle.asn_guards.specs.declared.asked.Guard.{Guard}
 use Rattle.asn_rules.specs.declared.node.Node.{Node}
 use Rattle.asn_rules.specs.declared.derive.Growth.{Growth}
 use Rattle.asn_rules.specs.declared.derive.Growth.TheVariants.{End, Fail, TooDeep}

@@ -1,10 +1,5 @@
 pub mod Marks
 pub mod Expression
-pub mod Lexical
-pub mod Guards
-pub mod Enumerations
-pub mod Allows
-pub mod Sizes
 pub mod Forms
 pub mod LexicalRules
 pub mod ValueRules

@@ -7,8 +7,8 @@ ghost use Rattle.std.specs.Prelude.{◌≡◌, ◌≤◌, ◌-◌, List};
 ghost use Rattle.asn_rules.specs.Expression.{Expression as Row, expression, rule_of};
 ghost use Rattle.asn_rules.specs.ConstraintRules.{constraint_rules_before};
 
+use crate::expression::Expression;
 use crate::expression::Expression::{Call, Guarded, Many, Not};
-use crate::expression::{Expression, Guard, Sight};
 use crate::forms::{
     ANY, BLANKS, EMPTY, GAP, bytes, choice, keyword, keyword_as, option, parens, seq, some, symbol,
     symbol_as, words,
@@ -24,6 +24,7 @@ use crate::names::{
     SINGLE_VALUE, SIZE_CONSTRAINT, SUBSET_MEMBER, SUBTYPE_ELEMENT, TABLE_CONSTRAINT,
     USER_DEFINED_CONSTRAINT, VALUE_IDENTIFIER, VALUE_RANGE,
 };
+use asn_guards::{Guard, Sight};
 
 // 102 constraint = constraint_item+
 static RULE_102: Expression = some!(Call(CONSTRAINT_ITEM));

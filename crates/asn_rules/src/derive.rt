@@ -10,12 +10,12 @@ ghost use Rattle.asn_rules.specs.Answer.{answer};
 ghost use Rattle.asn_rules.specs.Grown.{grown, after, of_outcome, with_leaf, IsWithinGrowth};
 ghost use Rattle.asn_rules.specs.Grammar.{rules_of};
 
-use crate::expression::{Expression, Guard, Sight};
+use crate::expression::Expression;
 use crate::grammar::{Grammar, rule_expression};
-use crate::guards::is_allowed;
 use crate::marks::Mark;
 use crate::node::Node;
 use crate::run::{MatchFault, Outcome, run, see_at};
+use asn_guards::{Guard, Sight, is_allowed};
 use asn_memory::{List, Mem};
 use std::alloc::Global;
 

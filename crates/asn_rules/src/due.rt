@@ -13,14 +13,15 @@ ghost use Rattle.asn_rules.specs.Valid.{Fails};
 ghost use Rattle.asn_rules.specs.declared.due.ModulePart.{ModulePart as OnePart};
 ghost use Rattle.asn_rules.specs.declared.grammar.Grammar.{Grammar as Table};
 
+use crate::expression::Expression;
 use crate::expression::Expression::{Call, Many, Skip};
-use crate::expression::{Expression, Sight};
 use crate::forms::{EMPTY, GAP, keyword, option};
 use crate::grammar::Grammar;
 use crate::names::{
     ASSIGNMENT, DEFINITION, DEFINITIVE, END, ENVIRONMENTS, EXPORTS, IDENTIFIER, IMPORTS, SP,
 };
 use crate::run::{Outcome, run};
+use asn_guards::Sight;
 
 /// A part that each module has (X.680 13.1).
 #[derive(Clone, Copy, Debug, PartialEq, Eq)]

@@ -7,8 +7,8 @@ ghost use Rattle.std.specs.Prelude.{◌≡◌};
 ghost use Rattle.asn_rules.specs.Expression.{expression, rule_of};
 ghost use Rattle.asn_rules.specs.First.{first};
 
+use crate::expression::Expression;
 use crate::expression::Expression::{Call, Guarded, Many, Not};
-use crate::expression::{Expression, Guard, Sight};
 use crate::forms::{ANY, BLANKS, EMPTY, GAP, choice, keyword, option, seq, some, symbol, words};
 use crate::lexical_rules::{NO_RULE, lexical_row};
 use crate::marks::Mark;
@@ -19,6 +19,7 @@ use crate::names::{
     SEQUENCE_OR_SET_MEMBER, STRUCT_BODY, TAG_DEFAULT, TITLE_CASE_IDENTIFIER,
     TOP_LEVEL_TYPE_DECLARATION, VALUE_RANGE,
 };
+use asn_guards::{Guard, Sight};
 
 // 44 integer_value = number_i128
 static RULE_44: Expression = Call(NUMBER_I128);

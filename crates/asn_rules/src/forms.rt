@@ -2,8 +2,9 @@
 //!
 //! The files of rows write with these.
 
-use crate::expression::{ByteClass, Expression, Sight};
+use crate::expression::Expression;
 use crate::names::SP;
+use asn_guards::{ByteClass, Sight};
 
 macro_rules! seq {
     ($a:expr) => { $a };

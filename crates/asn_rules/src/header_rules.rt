@@ -7,8 +7,8 @@ ghost use Rattle.std.specs.Prelude.{◌≡◌, ◌≤◌, ◌-◌, List};
 ghost use Rattle.asn_rules.specs.Expression.{Expression as Row, expression, rule_of};
 ghost use Rattle.asn_rules.specs.HeaderRules.{header_rules_before};
 
+use crate::expression::Expression;
 use crate::expression::Expression::{Call, Guarded, Many, Not};
-use crate::expression::{Expression, Guard, Sight};
 use crate::forms::{
     ALNUM, ANY, BLANKS, EMPTY, GAP, LABEL_MARK, LETTER, bytes, choice, keyword, keyword_as, option,
     seq, some, symbol, words,
@@ -20,6 +20,7 @@ use crate::names::{
     IMPORTED_SYMBOL, IMPORTS, IRI_LABELS, IRI_VALUE, ITEM_COMMENT, NAME_TAIL,
     OBJECT_IDENTIFIER_VALUE, SYMBOL_LIST, TAG_DEFAULT, VALUE_IDENTIFIER,
 };
+use asn_guards::{Guard, Sight};
 
 // 162 iri_labels = (alnum / one of -_~./)+ {no empty label between slashes}
 static RULE_162: Expression = Guarded(&some!(choice!(ALNUM, LABEL_MARK)), Guard::HasLabels);

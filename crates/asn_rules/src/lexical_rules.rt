@@ -8,8 +8,8 @@ ghost use Rattle.std.specs.Prelude.{◌≡◌, ◌≤◌, List};
 ghost use Rattle.asn_rules.specs.Expression.{Expression as Row, expression, rule_of};
 ghost use Rattle.asn_rules.specs.LexicalRules.{lexical_rules_before};
 
+use crate::expression::Expression;
 use crate::expression::Expression::{Call, Guarded, Many, Not};
-use crate::expression::{Expression, Guard, Sight};
 use crate::forms::{
     ALNUM, ANY, BLANK, BLANKS, CAP, DIGIT, EMPTY, GAP, LETTER, LINE_FEED, LOWER, NONE, bytes,
     choice, option, seq, some, symbol,
@@ -18,6 +18,7 @@ use crate::names::{
     BLOCK_COMMENT, CAPS_TAIL, COMMENT, COMMENT_BODY, DIGITS, LINE_BODY, LINE_COMMENT, NAME_TAIL,
     UPPERCASE_IDENTIFIER,
 };
+use asn_guards::{Guard, Sight};
 
 // A number that is no rule's fails everywhere.
 pub(crate) static NO_RULE: Expression = NONE;

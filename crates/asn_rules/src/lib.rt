@@ -9,15 +9,11 @@ mod constraint_rules;
 mod definition_rules;
 mod derive;
 mod due;
-mod enumerations;
 mod expression;
 mod first;
 mod forms;
-mod gaps;
 mod grammar;
-mod guards;
 mod header_rules;
-mod lexical;
 mod lexical_rules;
 mod marks;
 pub mod names;
@@ -26,18 +22,17 @@ mod object_rules;
 mod rule_names;
 mod rules;
 mod run;
-mod setting_pairs;
 mod type_rules;
 mod value_rules;
 mod whole;
 
+pub use asn_guards::{
+    ASN1_KEYWORDS, ByteClass, Guard, Sight, fit_is_exact, is_in_class, is_keyword, is_word_end,
+    natural_number, next_bare, reserved_words, whole_number,
+};
 pub use due::{DuePlace, ModulePart, due_place, one_due_place};
-pub use enumerations::fit_is_exact;
-pub use expression::{ByteClass, Expression, Guard, Sight};
-pub use gaps::next_bare;
+pub use expression::Expression;
 pub use grammar::{Grammar, rule_expression};
-pub use guards::{ASN1_KEYWORDS, is_keyword, natural_number, reserved_words, whole_number};
-pub use lexical::{is_in_class, is_word_end};
 pub use marks::Mark;
 pub use node::Node;
 pub use rule_names::{numbers_are_those_of_names, reader_rule};

@@ -7,8 +7,8 @@ ghost use Rattle.std.specs.Prelude.{◌≡◌, ◌≤◌, ◌-◌, List};
 ghost use Rattle.asn_rules.specs.Expression.{Expression as Row, expression, rule_of};
 ghost use Rattle.asn_rules.specs.ObjectRules.{object_rules_before};
 
+use crate::expression::Expression;
 use crate::expression::Expression::{Call, Guarded, Many};
-use crate::expression::{Expression, Guard, Sight};
 use crate::forms::{
     BLANKS, EMPTY, GAP, LOWER, UPPER, ahead, bytes, choice, keyword, keyword_as, option, seq, some,
     symbol, symbol_as,
@@ -21,6 +21,7 @@ use crate::names::{
     OBJECT_SET, OPTIONAL_MARKER, SET_MARK, SET_MORE, SINGLE_VALUE_FIELD_ID, SYNTAX_GROUP,
     SYNTAX_ITEM, SYNTAX_LITERAL, SYNTAX_PART, UPPERCASE_IDENTIFIER,
 };
+use asn_guards::{Guard, Sight};
 
 // 140 single_value_field_id = sp `&` lower name_tail
 static RULE_140: Expression = seq!(BLANKS, bytes!(b"&"), LOWER, Call(NAME_TAIL));

@@ -9,10 +9,9 @@ ghost use Rattle.asn_rules.specs.Runs.{seen};
 ghost use Rattle.asn_rules.specs.Answer.{answer, at_height, raised, one_more, IsWithin};
 ghost use Rattle.asn_rules.specs.Grammar.{rules_of};
 
-use crate::expression::{Expression, Guard, Sight};
+use crate::expression::Expression;
 use crate::grammar::{Grammar, rule_expression};
-use crate::guards::is_allowed;
-use crate::lexical::{stands_in, width_of};
+use asn_guards::{Guard, Sight, is_allowed, stands_in, width_of};
 use thiserror::Error;
 
 /// What a try of a rule came to. Its height counts the calls that lie within each other, itself included.

@@ -7,8 +7,8 @@ ghost use Rattle.std.specs.Prelude.{◌≡◌, ◌≤◌, ◌-◌, List};
 ghost use Rattle.asn_rules.specs.Expression.{Expression as Row, expression, rule_of};
 ghost use Rattle.asn_rules.specs.TypeRules.{type_rules_before};
 
+use crate::expression::Expression;
 use crate::expression::Expression::{Call, Guarded, Many};
-use crate::expression::{Expression, Guard, Sight};
 use crate::forms::{
     BLANK, EMPTY, GAP, choice, keyword, keyword_as, option, seq, some, symbol, words,
 };
@@ -25,6 +25,7 @@ use crate::names::{
     SEQUENCE, SEQUENCE_COMPONENT, SEQUENCE_OF, SEQUENCE_OR_SET_MEMBER, SET, SET_OF, STRUCT_BODY,
     TIME, TITLE_CASE_IDENTIFIER, UTC_TIME, VALUE_IDENTIFIER, VALUE_PATH,
 };
+use asn_guards::{Guard, Sight};
 
 // 54 null = 'NULL'
 static RULE_54: Expression = keyword!(b"NULL");

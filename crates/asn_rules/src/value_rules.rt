@@ -7,8 +7,8 @@ ghost use Rattle.std.specs.Prelude.{◌≡◌, ◌≤◌, ◌-◌, List};
 ghost use Rattle.asn_rules.specs.Expression.{Expression as Row, expression, rule_of};
 ghost use Rattle.asn_rules.specs.ValueRules.{value_rules_before};
 
+use crate::expression::Expression;
 use crate::expression::Expression::{Call, Guarded, Many, Not};
-use crate::expression::{Expression, Guard, Sight};
 use crate::forms::{
     ANY, BLANK, BLANKS, DIGIT, EMPTY, GAP, HEX_LETTER, TIME_MARK, bytes, choice, keyword,
     keyword_as, option, seq, some, symbol,
@@ -22,6 +22,7 @@ use crate::names::{
     OCTET_NUMBER, PATH_STEP, QUADRUPLE, QUOTED, QUOTED_BODY, REAL_BASE, REAL_VALUE, SEQUENCE_VALUE,
     STRUCT_ITEM, TIME_CHARS, TIME_VALUE, VALUE_IDENTIFIER, VALUE_LIST, VALUE_PATH,
 };
+use asn_guards::{Guard, Sight};
 
 // 23 all_value = 'ALL'
 static RULE_23: Expression = keyword!(b"ALL");

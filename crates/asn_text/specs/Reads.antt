@@ -2,9 +2,9 @@
 use Rattle.std.specs.Prelude.{◌≡◌, ℕ, ◌+◌, ◌≤◌, Bool, true, false, ◌||◌, List, codes, take, drop, slice_range, nat_eq, ℤ, Option, Some, None, if◌then◌else◌}
 use Rattle.std.specs.List.{starts_with}
 use Rattle.asn_rules.specs.Expression.{Expression, rule, seq, skip, guarded, rule_of, Sight, bytes, word as whole_word}
-use Rattle.asn_rules.specs.Allows.{allows}
-use Rattle.asn_rules.specs.Guards.{bare, natural, integer}
-use Rattle.asn_rules.specs.Lexical.{stands, width}
+use Rattle.asn_guards.specs.Allows.{allows}
+use Rattle.asn_guards.specs.Guards.{bare, natural, integer}
+use Rattle.asn_guards.specs.Lexical.{stands, width}
 use Rattle.asn_rules.specs.Runs.{Ending, ends, fails, Runs, Exceeds}
 use Rattle.asn_rules.specs.Whole.{whole_rules}
 use Rattle.asn_rules.specs.declared.names.TheConstants.{BLOCK_COMMENT, COMMENT, COMMENT_BODY, LINE_BODY, LINE_COMMENT, SP}

@@ -1,5 +1,5 @@
 use Rattle.std.proofs.Common.{◌≡◌, ◌++◌, length}
-use Rattle.asn_rules.specs.Guards.{bare}
+use Rattle.asn_guards.specs.Guards.{bare}
 use Rattle.asn_literals.proofs.bare.bare_bytes.Given as goal
 
 abbrev pub invariant-loop-byte : goal.invariant-loop-byte

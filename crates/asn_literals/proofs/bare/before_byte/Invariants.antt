@@ -1,5 +1,5 @@
 use Rattle.std.proofs.Common.{◌≡◌, ◌++◌, drop}
-use Rattle.asn_rules.specs.Guards.{before}
+use Rattle.asn_guards.specs.Guards.{before}
 use Rattle.asn_literals.proofs.bare.before_byte.Given as goal
 
 abbrev pub invariant-loop-byte : goal.invariant-loop-byte

@@ -1,5 +1,5 @@
 use Rattle.std.proofs.Common.{◌≡◌, length}
-use Rattle.asn_rules.specs.Guards.{behind}
+use Rattle.asn_guards.specs.Guards.{behind}
 use Rattle.asn_literals.proofs.bare.behind_byte.Given as goal
 
 abbrev pub invariant-loop-rest : goal.invariant-loop-rest

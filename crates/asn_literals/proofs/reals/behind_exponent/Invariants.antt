@@ -1,5 +1,5 @@
 use Rattle.std.proofs.Common.{◌≡◌, length}
-use Rattle.asn_rules.specs.Guards.{behind_exponent_mark}
+use Rattle.asn_guards.specs.Guards.{behind_exponent_mark}
 use Rattle.asn_literals.proofs.reals.behind_exponent.Given as goal
 
 abbrev pub invariant-loop-rest : goal.invariant-loop-rest

@@ -1,5 +1,5 @@
 use Rattle.std.proofs.Common.{◌≡◌, ◌++◌, drop}
-use Rattle.asn_rules.specs.Guards.{mantissa}
+use Rattle.asn_guards.specs.Guards.{mantissa}
 use Rattle.asn_literals.proofs.reals.mantissa_of.Given as goal
 
 abbrev pub invariant-loop-byte : goal.invariant-loop-byte

@@ -1,0 +1,5 @@
+pub mod Lexical
+pub mod Guards
+pub mod Enumerations
+pub mod Allows
+pub mod Sizes

@@ -1,6 +1,0 @@
-use Rattle.std.proofs.Common.{◌≡◌, true, drop}
-use Rattle.asn_rules.specs.Guards.{has_labels}
-use Rattle.asn_rules.proofs.guards.has_labels.Given as goal
-
-abbrev pub invariant-loop-byte : goal.invariant-loop-byte
-invariant-loop-byte l = has_labels l.slash (drop l.byte-index l.taken) ≡ has_labels true l.taken
