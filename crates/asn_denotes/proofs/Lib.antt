@@ -1,5 +1,12 @@
+pub mod Asking
 pub mod Bracing
+pub mod Denoting
+pub mod Fielding
+pub mod Joining
 pub mod Listing
 pub mod Naming
+pub mod Owning
+pub mod Paths
 pub mod Rowing
 pub mod Spelling
+pub mod Standing

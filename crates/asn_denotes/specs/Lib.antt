@@ -1,3 +1,4 @@
 pub mod Bits
 pub mod Braces
+pub mod Denotation
 pub mod inner

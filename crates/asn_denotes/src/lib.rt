@@ -1,17 +1,29 @@
-//! A plain slow program that computes what values denote by the definitions of meaning, as far as it goes: the trees of
-//! values that hold no other value, and what a value has between its braces.
+//! A plain slow program that computes what values denote by the definitions of meaning: the trees of values by their own
+//! notation, names, dummies, paths and values with parts; and whether a value is ALL or stands for it.
 //!
-//! It stands on asn_heads, which tells how a value is written, and on asn_shapes, whose trees it gives. Each call is proved to
-//! give what its definition says, so that tests ask the definitions themselves.
+//! What meaning knows within a number of steps, a call computes by `steps`, which counts down. It stands on asn_heads, which
+//! tells where names lead and how a value is written, and on asn_shapes, whose trees it gives. Each call is proved to give
+//! what its definition says, so that tests ask the definitions themselves.
 #![tactic(auto)]
 
 mod bits;
 mod braces;
+mod denotation;
+mod everything;
+mod gathering;
 mod making;
+mod own;
+mod reading;
 mod rows;
+mod stands;
+mod structs;
 mod texts;
+mod values;
 
 pub use bits::bits_written;
 pub use braces::{NamedValue, all_unnamed, elements_written, fields_written};
+pub use denotation::Denotation;
+pub use everything::is_all;
 pub use rows::{number_written, row};
 pub use texts::string_written;
+pub use values::denotes;

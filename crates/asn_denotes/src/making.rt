@@ -1,13 +1,13 @@
 //! Trees made of their parts, each with the value tree that it stands for.
 
-ghost use Rattle.asn_shapes.specs.Trees.{shown_tree};
+ghost use Rattle.asn_shapes.specs.Trees.{shown_field, shown_fields, shown_tree, shown_trees};
 ghost use Rattle.asn_meaning.specs.Rows.{arc_tree};
-ghost use Rattle.asn_meaning.specs.ValueTrees.{Bits, Characters, NullValue, ObjectIdentifierArcs, Octets, Opaque, RealNumber, TruthValue, WholeNumber};
+ghost use Rattle.asn_meaning.specs.ValueTrees.{Alternative, Bits, Characters, Elements, ItemNumber, NullValue, ObjectIdentifierArcs, Octets, Opaque, RealNumber, Struct, TruthValue, WholeNumber};
 ghost use Rattle.std.specs.Prelude.{◌≡◌, map};
 ghost use Rattle.std.specs.Str.{chars};
 
-use asn_memory::{List, Text};
-use asn_shapes::Tree;
+use asn_memory::{Box, List, Text};
+use asn_shapes::{Field, Tree};
 use asn_tree::{ObjectIdentifierValue, RealValue};
 
 /// The value of NULL.
@@ -80,4 +80,44 @@ pub fn opaque_tree() -> Tree
     ensures { shown_tree result ≡ Opaque }
 {
     Tree::Opaque
+}
+
+/// The number of an item of an enumeration.
+#[tactic(auto, using(asn_shapes::proofs::Showing::item_shown))]
+pub fn item_tree(number: i128) -> Tree
+    ensures { shown_tree result ≡ ItemNumber number }
+{
+    Tree::Item(number)
+}
+
+/// A struct of these fields.
+#[tactic(auto, using(asn_shapes::proofs::Showing::struct_shown))]
+pub fn struct_tree(fields: List<Field>) -> Tree
+    ensures { shown_tree result ≡ Struct (shown_fields fields) }
+{
+    Tree::Struct(fields)
+}
+
+/// A list of these elements.
+#[tactic(auto, using(asn_shapes::proofs::Showing::elements_shown))]
+pub fn elements_tree(elements: List<Tree>) -> Tree
+    ensures { shown_tree result ≡ Elements (shown_trees elements) }
+{
+    Tree::Elements(elements)
+}
+
+/// An alternative.
+#[tactic(auto, using(asn_shapes::proofs::Showing::alternative_shown))]
+pub fn alternative_tree(name: Text, tree: Box<Tree>) -> Tree
+    ensures { shown_tree result ≡ Alternative name (shown_tree tree) }
+{
+    Tree::Alternative(name, tree)
+}
+
+/// A member that is present.
+#[tactic(auto, using(asn_shapes::proofs::Showing::field_shown))]
+pub fn made_field(name: Text, tree: Tree) -> Field
+    ensures { shown_field result ≡ (name, shown_tree tree) }
+{
+    Field { name, tree }
 }

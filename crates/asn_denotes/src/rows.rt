@@ -358,7 +358,7 @@ fn octets_row(alloc: Global, written: Written<'_>) -> Mem<Option<Tree>>
 }
 
 /// The bits in braces; without braces there are none.
-fn named_of<'a>(bits: Option<&'a List<DistinguishedValue>>) -> &'a [DistinguishedValue]
+pub fn named_of<'a>(bits: Option<&'a List<DistinguishedValue>>) -> &'a [DistinguishedValue]
     ensures { result.now ≡ named (option_copied bits.entry) }
 {
     match bits {
