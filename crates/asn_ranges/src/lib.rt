@@ -7,9 +7,27 @@
 #![tactic(auto)]
 
 mod chains;
-mod numbers;
+mod ends;
+mod joining;
+mod kinds;
+mod known;
+mod leaving;
+mod making;
+mod operands;
 mod parents;
+mod ranges;
+mod sets;
+mod turns;
+mod wide;
 
-pub use chains::{Chain, chain};
-pub use numbers::Numbers;
-pub use parents::Parent;
+pub use chains::{Chain, Joined};
+pub use kinds::{constraints_in, is_free, restricted};
+pub use leaving::{narrowed, numbers, numbers_before};
+pub use making::{
+    above_least, below_greatest, every_number, in_both, in_either, in_first, no_number,
+    numbers_among, numbers_from, numbers_to, one_number,
+};
+pub use operands::chain;
+pub use parents::{Parent, codes_of, value_place};
+pub use ranges::range;
+pub use sets::Numbers;
