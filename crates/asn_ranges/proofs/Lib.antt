@@ -1,0 +1,8 @@
+pub mod Setting
+pub mod Turning
+pub mod Trying
+pub mod Chaining
+pub mod Elements
+pub mod Narrowing
+pub mod Placing
+pub mod Ranking

@@ -1,0 +1,4 @@
+pub mod Sets
+pub mod Chains
+pub mod Parents
+pub mod inner
