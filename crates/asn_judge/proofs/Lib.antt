@@ -1,1 +1,8 @@
+pub mod Accepting
 pub mod Comparing
+pub mod Holding
+pub mod Inner
+pub mod Listing
+pub mod Singling
+pub mod Sizing
+pub mod Spelling

@@ -6,6 +6,14 @@
 //! definitions themselves.
 #![tactic(auto)]
 
+mod characters;
+mod judging;
+mod parts;
+mod presence;
+mod ranking;
+mod singles;
+mod sizes;
 mod trees;
 
+pub use judging::{accepts, holds, judge};
 pub use trees::same_tree;

@@ -348,7 +348,7 @@ fn is_seen(fields: &[Field], number: usize, name: &str) -> bool
 }
 
 /// Whether two names are one.
-fn same_name(left: &Text, right: &Text) -> bool
+pub fn same_name(left: &Text, right: &Text) -> bool
     ensures { result ≡ bytes_eq left.now right.now }
 {
     left.as_str() == right.as_str()

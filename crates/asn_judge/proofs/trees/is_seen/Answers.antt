@@ -18,6 +18,6 @@ loop-left-preserved c =
     let less : c.loop-left.left - 1 ≤ length c.args.fields.now = omega (arith, within) in (
       less,
       sym (seen_before c.args.fields.now c.loop-left.left c.index-fields-left.result c.args.name.now some within c.index-fields-left.is
-      (ap (λ f. bytes_eq (out-Field f).name c.args.name.now) c.index-fields-left.is ∙ ap (λ n. bytes_eq n c.args.name.now) (sym c.as_str.ensures) ∙ sym c.eq.ensures ∙ c.if-eq.false))
-      ∙ c.loop-left.invariant.1
+          (ap (λ f. bytes_eq (out-Field f).name c.args.name.now) c.index-fields-left.is ∙ ap (λ n. bytes_eq n c.args.name.now) (sym c.as_str.ensures) ∙ sym c.eq.ensures ∙ c.if-eq.false))
+          ∙ c.loop-left.invariant.1,
     )
