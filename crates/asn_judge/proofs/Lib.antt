@@ -4,5 +4,4 @@ pub mod Holding
 pub mod Inner
 pub mod Listing
 pub mod Singling
-pub mod Sizing
 pub mod Spelling

@@ -7,8 +7,6 @@ use Rattle.std.specs.Str.{bytes_eq}
 use Rattle.asn_tree.specs.declared.values.ASN1Value.{ASN1Value}
 use Rattle.asn_judge.specs.inner.Characters.{character_in, characters_in, only_item}
 use Rattle.asn_judge.specs.inner.Singles.{whole_in}
-use Rattle.asn_ranges.specs.declared.numbers.Numbers.{Numbers as OwnNumbers}
-use Rattle.asn_ranges.specs.Sets.{shown_numbers}
 use Rattle.asn_meaning.specs.Answers.{Answer, Yes, No, Unknown, answer_of, once, unless_all, Denotation}
 use Rattle.asn_meaning.specs.Constraints.{compared, number_asked, occurs, range_holds, single_holds}
 use Rattle.asn_meaning.specs.Meaning.{Meaning, Parent, ValuesOf, CharactersOf}
@@ -131,5 +129,5 @@ out_of_range s n e = ap (range_holds s) e
 pub range_lost : (s : Option Numbers) (n : Option ℤ) (i : ℤ) → n ≡ Some i → s ≡ None → range_holds s n ≡ Unknown
 range_lost s n i e f = ap (range_holds s) e ∙ ap (λ found. range_holds found (Some i)) f
 
-pub range_known : (s : Option Numbers) (n : Option ℤ) (i : ℤ) (set : OwnNumbers) (b : Bool) → n ≡ Some i → s ≡ Some (shown_numbers set) → b ≡ (shown_numbers set).has i → range_holds s n ≡ answer_of b
+pub range_known : (s : Option Numbers) (n : Option ℤ) (i : ℤ) (set : Numbers) (b : Bool) → n ≡ Some i → s ≡ Some set → b ≡ set.has i → range_holds s n ≡ answer_of b
 range_known s n i set b e f g = ap (range_holds s) e ∙ ap (λ found. range_holds found (Some i)) f ∙ sym (ap answer_of g)

@@ -2,6 +2,7 @@
 //! left (X.680 50.1).
 
 ghost use Rattle.asn_judge.specs.inner.Ranking.{begun, joined, ranks_on, told};
+ghost use Rattle.asn_kinds.specs.declared.constraints.SetOperator.TheVariants.{Except, Intersection, Union};
 ghost use Rattle.asn_shapes.specs.Answers.{known};
 ghost use Rattle.std.specs.Prelude.{◌≡◌};
 
@@ -31,26 +32,47 @@ impl Ranking {
         }
     }
 
+    /// Without the elements of this one.
+    fn without(self, next: Answer) -> Ranking
+        ensures { ranks_on result ≡ joined Except (known next) (ranks_on self) }
+    {
+        Ranking {
+            united: self.united,
+            met: self.met,
+            last: self.last.and(next.denied()),
+        }
+    }
+
+    /// Where this one holds too.
+    fn intersected(self, next: Answer) -> Ranking
+        ensures { ranks_on result ≡ joined Intersection (known next) (ranks_on self) }
+    {
+        Ranking {
+            united: self.united,
+            met: self.met.and(self.last),
+            last: next,
+        }
+    }
+
+    /// Or where this one holds.
+    fn joined(self, next: Answer) -> Ranking
+        ensures { ranks_on result ≡ joined Union (known next) (ranks_on self) }
+    {
+        Ranking {
+            united: self.united.or(self.met.and(self.last)),
+            met: Answer::Yes,
+            last: next,
+        }
+    }
+
     /// With the element behind this operator.
     pub fn with(self, operator: SetOperator, next: Answer) -> Ranking
         ensures { ranks_on result ≡ joined operator (known next) (ranks_on self) }
     {
         match operator {
-            SetOperator::Except => Ranking {
-                united: self.united,
-                met: self.met,
-                last: self.last.and(next.denied()),
-            },
-            SetOperator::Intersection => Ranking {
-                united: self.united,
-                met: self.met.and(self.last),
-                last: next,
-            },
-            SetOperator::Union => Ranking {
-                united: self.united.or(self.met.and(self.last)),
-                met: Answer::Yes,
-                last: next,
-            },
+            SetOperator::Except => self.without(next),
+            SetOperator::Intersection => self.intersected(next),
+            SetOperator::Union => self.joined(next),
         }
     }
 

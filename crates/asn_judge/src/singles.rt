@@ -92,7 +92,8 @@ fn single_holds_under<'a>(
     place: &Place<'a>,
     tree: &Tree,
 ) -> Mem<Answer>
-    ensures { shown_place place.now ≡ value_place (shown_parent parent.entry) → IfOk result (λ answer. known answer ≡ single_holds (meaning definitions.now steps) (shown scope.now) (shown_parent parent.entry) value.now (shown_tree tree.now)) }
+    requires { shown_place place.now ≡ value_place (shown_parent parent) }
+    ensures { IfOk result (λ answer. known answer ≡ single_holds (meaning definitions.now steps) (shown scope.now) (shown_parent parent.entry) value.now (shown_tree tree.now)) }
 {
     let form = ValueForm::Written(value);
     match is_all(alloc, definitions, steps, scope, form, place)? {

@@ -10,7 +10,7 @@ ghost use Rattle.std.specs.Option.{option_map};
 ghost use Rattle.std.specs.Prelude.{◌≡◌, None, Some, false, pos};
 
 use asn_heads::{Place, Scope, TypeForm};
-use asn_ranges::Numbers;
+use asn_ranges::{Numbers, numbers_from};
 use asn_shapes::Tree;
 
 /// A size as a tree.
@@ -32,20 +32,9 @@ pub fn size_place<'a>() -> Place<'a>
     }
 }
 
-/// The numbers from 0 on.
-#[tactic(auto, using(crate::proofs::Sizing::from_shown))]
-fn numbers_from_zero() -> Numbers
-    ensures { shown_numbers result ≡ numbers_from false (pos 0) }
-{
-    Numbers::From {
-        left_out: false,
-        number: 0,
-    }
-}
-
 /// The numbers that sizes are.
 pub fn size_numbers() -> Option<Numbers>
     ensures { option_map shown_numbers result ≡ Some (numbers_from false (pos 0)) }
 {
-    Some(numbers_from_zero())
+    Some(numbers_from(false, 0))
 }
