@@ -7,7 +7,6 @@ use Rattle.asn_kinds.specs.declared.constraints.SetOperator.TheVariants.{Interse
 use Rattle.asn_tree.specs.declared.constraints.Constraint.{Constraint, out-Constraint}
 use Rattle.asn_tree.specs.declared.constraints.ElementOrSetOperation.{ElementOrSetOperation}
 use Rattle.asn_tree.specs.declared.constraints.SubtypeElement.{SubtypeElement, out-SubtypeElement}
-use Rattle.asn_notation.specs.Types.{constraints_of}
 use Rattle.asn_ranges.specs.declared.chains.Chain.{Chain as LentChain}
 use Rattle.asn_ranges.specs.declared.chains.Joined.{Joined}
 use Rattle.asn_ranges.specs.Chains.{shown_chain, shown_joined}
@@ -22,8 +21,7 @@ use Rattle.asn_meaning.specs.Judge.{meaning, nothing_known, step}
 use Rattle.asn_meaning.specs.Meaning.{Meaning, Parent, ValuesOf, CharactersOf}
 use Rattle.asn_meaning.specs.Members.{element_place}
 use Rattle.asn_meaning.specs.Numbers.{Chain, Numbers, answers, numbers_from, ranked, ranked_from}
-use Rattle.asn_meaning.specs.Placed.{listed}
-use Rattle.asn_meaning.specs.Ranges.{all_constraints, codes_of, integer_named, is_free, narrowed, narrowed_by_all}
+use Rattle.asn_meaning.specs.Ranges.{codes_of, integer_named, is_free, narrowed, narrowed_by_all}
 use Rattle.asn_meaning.specs.Scopes.{Place, Scope}
 use Rattle.asn_meaning.specs.Shapes.{list_judged}
 use Rattle.asn_meaning.specs.ValueTrees.{ValueTree, NullValue, TruthValue, WholeNumber, ItemNumber, RealNumber, Bits, Octets, Characters, ObjectIdentifierArcs, Struct, Elements, Alternative, Opaque, counted}
@@ -116,13 +114,12 @@ held_by_all M scope h n (c ∷ cs) ds t =
     ap (both (constraint_holds M scope h n c t)) (held_by_all M scope h (narrowed M scope h n c) cs ds t)
     ∙ sym (regrouped (constraint_holds M scope h n c t) (all_hold M scope h (narrowed M scope h n c) cs t) (all_hold M scope h (narrowed_by_all M scope h (narrowed M scope h n c) cs) ds t))
 
-pub held_of_both : (M : Meaning) (scope : Scope) (p h : Place) (n m : Option Numbers) (own cs : List Constraint) (t : ValueTree) (a b : Answer) → own ≡ listed (constraints_of p.ty) →
-    a ≡ all_hold M scope h n own t → m ≡ narrowed_by_all M scope h n own → b ≡ all_hold M scope h m cs t → all_hold M scope h n (all_constraints p cs) t ≡ both a b
-held_of_both M scope p h n m own cs t a b e is left further =
-    sym (ap (λ xs. all_hold M scope h n (xs ++ cs) t) e)
-    ∙ held_by_all M scope h n own cs t
-    ∙ sym (ap (λ x. both x (all_hold M scope h (narrowed_by_all M scope h n own) cs t)) is)
-    ∙ sym (ap (λ x. both a (all_hold M scope h x cs t)) left)
+pub held_of_both : (M : Meaning) (scope : Scope) (h : Place) (n m : Option Numbers) (cs ds : List Constraint) (t : ValueTree) (a b : Answer) → a ≡ all_hold M scope h n cs t →
+    m ≡ narrowed_by_all M scope h n cs → b ≡ all_hold M scope h m ds t → all_hold M scope h n (cs ++ ds) t ≡ both a b
+held_of_both M scope h n m cs ds t a b is left further =
+    held_by_all M scope h n cs ds t
+    ∙ sym (ap (λ x. both x (all_hold M scope h (narrowed_by_all M scope h n cs) ds t)) is)
+    ∙ sym (ap (λ x. both a (all_hold M scope h x ds t)) left)
     ∙ sym (ap (both a) further)
 
 pub part_headless : (M : Meaning) (scope : Scope) (p : Place) (cs : List Constraint) (t : ValueTree) → M.head p ≡ None → part_holds M scope p cs t ≡ Unknown

@@ -1,14 +1,15 @@
 -- Answers, members and listed components one by one.
-use Rattle.std.proofs.Common.{◌≡◌, ◌<◌, ◌≤◌, ℕ, ◌+◌, List, ◌∷◌, drop, length, get_or, refl, sym, ap, ◌∙◌}
-use Rattle.std.specs.Prelude.{◌||◌}
+use Rattle.std.proofs.Common.{◌≡◌, ◌<◌, ◌≤◌, ℕ, ◌+◌, List, ◌∷◌, drop, length, get_or, Bool, true, false, refl, sym, ap, ◌∙◌}
+use Rattle.std.specs.Prelude.{◌||◌, not, is_none, is_some}
 use Rattle.std.specs.Str.{bytes_eq}
 use Rattle.std.proofs.lemmas.List.{drop_more, drop_all}
 use Rattle.asn_shapes.specs.declared.members.Member.{Member as LentMember}
 use Rattle.asn_shapes.specs.Members.{shown_member, shown_members}
 use Rattle.asn_meaning.specs.Answers.{Answer, Yes, No, Unknown, both, each}
-use Rattle.asn_meaning.specs.Constraints.{is_listed}
-use Rattle.asn_meaning.specs.Layers.{ListedLayer}
+use Rattle.asn_meaning.specs.Constraints.{is_left_out, is_listed}
+use Rattle.asn_meaning.specs.Layers.{InnerLayer, ListedLayer}
 use Rattle.asn_meaning.specs.Meaning.{Member}
+use Rattle.asn_meaning.specs.ValueTrees.{Fields, field_named}
 
 pub regrouped : (a b c : Answer) → both (both a b) c ≡ both a (both b c)
 regrouped Yes b c = refl
@@ -47,3 +48,22 @@ members_done ask ms i a le = ap (λ ys. both a (each ask (shown_members ys))) (d
 pub listed_first : (cs : List ListedLayer) (i : ℕ) (c : ListedLayer) (name : List ℕ) → i < length cs → c ≡ get_or cs i c →
     is_listed (drop i cs) name ≡ (bytes_eq c.identifier name || is_listed (drop (i + 1) cs) name)
 listed_first cs i c name lt e = ap (λ xs. is_listed xs name) (drop_more cs i c lt ∙ ap (λ x. x ∷ drop (i + 1) cs) (sym e))
+
+first_or : (a b c : Bool) → (a || b) ≡ true → (a || (b || c)) ≡ true
+first_or true b c e = refl
+first_or false true c e = refl
+first_or false false c e = absurd cc
+
+neither_or : (a b c : Bool) → (a || b) ≡ false → (a || (b || c)) ≡ c
+neither_or true b c e = absurd cc
+neither_or false true c e = absurd cc
+neither_or false false c e = refl
+
+pub left_out_free : (inner : InnerLayer) (fs : Fields) (m : Member) → (inner.is_partial || is_listed inner.constraints m.written.name) ≡ true → is_left_out inner fs m ≡ true
+left_out_free inner fs m e =
+    first_or inner.is_partial (is_listed inner.constraints m.written.name) (not (m.written.is_optional || is_some m.written.default_value) || is_none (field_named fs m.written.name)) e
+
+pub left_out_bound : (inner : InnerLayer) (fs : Fields) (m : Member) → (inner.is_partial || is_listed inner.constraints m.written.name) ≡ false →
+    is_left_out inner fs m ≡ (not (m.written.is_optional || is_some m.written.default_value) || is_none (field_named fs m.written.name))
+left_out_bound inner fs m e =
+    neither_or inner.is_partial (is_listed inner.constraints m.written.name) (not (m.written.is_optional || is_some m.written.default_value) || is_none (field_named fs m.written.name)) e

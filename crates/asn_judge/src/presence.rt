@@ -99,6 +99,7 @@ fn is_absent_or_due(fields: &[Field], member: &Member<'_>) -> bool
 }
 
 /// Whether a member that is not listed is absent where it may be, or the list begins with `...`.
+#[tactic(auto, using(crate::proofs::Listing::left_out_free, crate::proofs::Listing::left_out_bound))]
 fn is_left_out(inner: &InnerTypeConstraint, fields: &[Field], member: &Member<'_>) -> bool
     ensures { result ≡ is_left_out inner.now (shown_fields fields.now) (shown_member member.now) }
 {

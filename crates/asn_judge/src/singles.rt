@@ -188,7 +188,7 @@ pub fn range_holds<'a>(
     high_open: bool,
     tree: &Tree,
 ) -> Mem<Answer>
-    ensures { IfOk result (λ answer. known answer ≡ range_holds (range (meaning definitions.now steps) (shown scope.now) (shown_parent parent.entry) (option_copied low) (option_copied high) low_open high_open) (number_asked (shown_parent parent.entry) (shown_tree tree.now))) }
+    ensures { IfOk result (λ answer. known answer ≡ range_holds (range (meaning definitions.now steps) (shown scope.now) (shown_parent parent.entry) (option_copied low.entry) (option_copied high.entry) low_open high_open) (number_asked (shown_parent parent.entry) (shown_tree tree.now))) }
 {
     match number_asked(alloc, parent, tree)? {
         None => Ok(Answer::No),

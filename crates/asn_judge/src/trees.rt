@@ -4,8 +4,8 @@ ghost use Rattle.asn_judge.specs.inner.Trees.{arc_name, in_pairs, is_same_field,
 ghost use Rattle.asn_shapes.specs.Trees.{shown_fields, shown_tree, shown_trees};
 ghost use Rattle.asn_shapes.specs.declared.trees.Field.{out-Field};
 ghost use Rattle.asn_meaning.specs.Rows.{arc_tree};
-ghost use Rattle.asn_meaning.specs.ValueTrees.{Alternative, Bits, Characters, Elements, ItemNumber, ObjectIdentifierArcs, Octets, RealNumber, Struct, TruthValue, WholeNumber, are_among, counted, field_named, field_names, is_among, same_arc, same_arcs, same_bits, same_fields, same_number, same_tree, same_trees, same_truth};
-ghost use Rattle.std.specs.Prelude.{◌≡◌, ◌≤◌, ◌&&◌, [], length, map, nat_eq, None, Some};
+ghost use Rattle.asn_meaning.specs.ValueTrees.{Alternative, Bits, Characters, Elements, ItemNumber, ObjectIdentifierArcs, Octets, RealNumber, Struct, TruthValue, WholeNumber, are_among, counted, field_names, is_among, same_arc, same_fields, same_number, same_tree, same_truth};
+ghost use Rattle.std.specs.Prelude.{◌≡◌, ◌≤◌, ◌&&◌, [], length, map, nat_eq};
 ghost use Rattle.std.specs.Str.{bytes_eq, chars};
 
 use asn_memory::{List, Text};

@@ -1,7 +1,6 @@
 //! Whether a type accepts a tree: what it stands for does, and all constraints of the type and of its place hold.
 
 ghost use Rattle.asn_heads.specs.Kinds.{shown_kind};
-ghost use Rattle.asn_heads.specs.Leads.{shown_lead};
 ghost use Rattle.asn_heads.specs.Places.{shown_place};
 ghost use Rattle.asn_heads.specs.Scopes.{shown};
 ghost use Rattle.asn_judge.specs.inner.Judging.{type_accepts};
@@ -20,10 +19,10 @@ ghost use Rattle.asn_meaning.specs.Shapes.{choice_judged, fields_judged, is_of_k
 ghost use Rattle.asn_meaning.specs.ValueTrees.{field_named};
 ghost use Rattle.asn_tree.specs.declared.types.SequenceOrSet.{out-SequenceOrSet};
 ghost use Rattle.std.specs.Option.{option_copied};
-ghost use Rattle.std.specs.Prelude.{◌≡◌, [], IfOk};
+ghost use Rattle.std.specs.Prelude.{◌≡◌, IfOk};
 
 use crate::characters::characters_fit;
-use crate::judging::constraints::{Held, all_hold};
+use crate::judging::constraints::both_hold;
 use asn_heads::{Kind, Lead, Place, Scope, Target, TypeForm, head, kind_of, lead_of, option_named};
 use asn_memory::Mem;
 use asn_ranges::{constraints_in, numbers_before};
@@ -89,7 +88,6 @@ fn accepts_at<'a>(
 
 /// Whether all constraints of a type and of its place hold, where the type has this head.
 #[cycle(judging)]
-#[tactic(auto, using(crate::proofs::Holding::held_of_both))]
 fn constraints_hold<'a>(
     alloc: Global,
     definitions: &'a [ToplevelDefinition],
@@ -104,7 +102,7 @@ fn constraints_hold<'a>(
     let before = numbers_before(alloc, definitions, steps, place)?;
     let own = constraints_in(place.ty);
     let scope = &place.scope;
-    let Held { answer, numbers } = all_hold(
+    let answer = both_hold(
         alloc,
         definitions,
         steps,
@@ -112,19 +110,10 @@ fn constraints_hold<'a>(
         head,
         before,
         own,
-        tree,
-    )?;
-    let further = all_hold(
-        alloc,
-        definitions,
-        steps,
-        scope,
-        head,
-        numbers,
         constraints,
         tree,
     )?;
-    Ok(answer.and(further.answer))
+    Ok(answer)
 }
 
 /// Whether what a type stands for accepts a tree, with the constraints that come along.

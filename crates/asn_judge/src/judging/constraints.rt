@@ -14,7 +14,7 @@ ghost use Rattle.asn_meaning.specs.Numbers.{answers, ranked};
 ghost use Rattle.asn_meaning.specs.Ranges.{narrowed_by_all};
 ghost use Rattle.asn_tree.specs.declared.constraints.Constraint.{out-Constraint};
 ghost use Rattle.std.specs.Option.{option_map};
-ghost use Rattle.std.specs.Prelude.{◌≡◌, IfOk};
+ghost use Rattle.std.specs.Prelude.{◌≡◌, ◌++◌, IfOk};
 
 use crate::judging::elements::holds;
 use crate::ranking::Ranking;
@@ -131,15 +131,15 @@ fn constraint_holds<'a>(
 
 /// What constraints say of a tree, and the whole numbers that they leave.
 #[derive(Drop)]
-pub(super) struct Held {
-    pub(super) answer: Answer,
-    pub(super) numbers: Option<Numbers>,
+struct Held {
+    answer: Answer,
+    numbers: Option<Numbers>,
 }
 
 /// Whether all constraints on a head hold of a tree, each on the type with those before it; and the numbers that they leave.
 #[cycle(judging)]
 #[tactic(auto, using(crate::proofs::Holding::constraint_next, crate::proofs::Holding::constraints_done, crate::proofs::Holding::narrowed_next, crate::proofs::Holding::narrowed_done))]
-pub(super) fn all_hold<'a>(
+fn all_hold<'a>(
     alloc: Global,
     definitions: &'a [ToplevelDefinition],
     steps: usize,
@@ -170,6 +170,45 @@ pub(super) fn all_hold<'a>(
         numbers = left;
     }
     Ok(Held { answer, numbers })
+}
+
+/// Whether constraints on a head hold of a tree, and those behind them.
+#[cycle(judging)]
+#[tactic(auto, using(crate::proofs::Holding::held_of_both))]
+pub(super) fn both_hold<'a>(
+    alloc: Global,
+    definitions: &'a [ToplevelDefinition],
+    steps: usize,
+    scope: &Scope<'a>,
+    head: &Place<'a>,
+    before: Option<Numbers>,
+    own: &'a [Constraint],
+    constraints: &'a [Constraint],
+    tree: &Tree,
+) -> Mem<Answer>
+    ensures { IfOk result (λ answer. known answer ≡ all_hold (meaning definitions.now steps) (shown scope.now) (shown_place head.now) (option_map shown_numbers before) (own.now ++ constraints.now) (shown_tree tree.now)) }
+{
+    let Held { answer, numbers } = all_hold(
+        alloc,
+        definitions,
+        steps,
+        scope,
+        head,
+        before,
+        own,
+        tree,
+    )?;
+    let further = all_hold(
+        alloc,
+        definitions,
+        steps,
+        scope,
+        head,
+        numbers,
+        constraints,
+        tree,
+    )?;
+    Ok(answer.and(further.answer))
 }
 
 /// Whether further constraints on the type of a part hold of a tree; they are written in `scope`.

@@ -60,7 +60,7 @@ abbrev pub decreases-accepting::stands_for : goal.decreases-accepting::stands_fo
 decreases-accepting::stands_for l = 16 * l.steps + 8
 
 abbrev pub decreases-accepting::constraints_hold : goal.decreases-accepting::constraints_hold
-decreases-accepting::constraints_hold l = 16 * l.steps + 6
+decreases-accepting::constraints_hold l = 16 * l.steps + 7
 
 abbrev pub decreases-accepting::accepts_at : goal.decreases-accepting::accepts_at
 decreases-accepting::accepts_at l = 16 * l.steps + 9
@@ -79,6 +79,9 @@ decreases-constraints::constraint_holds l = 16 * l.steps + 4
 
 abbrev pub decreases-constraints::all_hold : goal.decreases-constraints::all_hold
 decreases-constraints::all_hold l = 16 * l.steps + 5
+
+abbrev pub decreases-constraints::both_hold : goal.decreases-constraints::both_hold
+decreases-constraints::both_hold l = 16 * l.steps + 6
 
 abbrev pub decreases-constraints::part_holds : goal.decreases-constraints::part_holds
 decreases-constraints::part_holds l = 16 * l.steps + 6
