@@ -1,0 +1,7 @@
+pub mod Accepting
+pub mod Comparing
+pub mod Holding
+pub mod Inner
+pub mod Listing
+pub mod Singling
+pub mod Spelling

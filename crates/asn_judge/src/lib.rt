@@ -1,0 +1,19 @@
+//! A plain slow program that computes, by the definitions of meaning, whether a type accepts a value tree, with every constraint.
+//!
+//! What meaning knows within a number of steps, a call computes by `steps`, which counts down. It stands on asn_ranges, which tells
+//! what whole numbers are left, and on asn_denotes, which tells what values denote; it borrows the trees, and copies no more than
+//! scopes, sets of numbers and single characters. Each call is proved to give what its definition says, so that tests ask the
+//! definitions themselves.
+#![tactic(auto)]
+
+mod characters;
+mod judging;
+mod parts;
+mod presence;
+mod ranking;
+mod singles;
+mod sizes;
+mod trees;
+
+pub use judging::{accepts, holds, judge};
+pub use trees::same_tree;
