@@ -35,6 +35,17 @@ pub fn range(low: i128, high: i128) -> Mem<SubtypeElement> {
     })
 }
 
+/// `low..high, ...`.
+pub fn extensible_range(low: i128, high: i128) -> Mem<SubtypeElement> {
+    Ok(SubtypeElement::ValueRange {
+        min: Some(ASN1Value::Integer(low)),
+        max: Some(ASN1Value::Integer(high)),
+        min_open: false,
+        max_open: false,
+        extensible: true,
+    })
+}
+
 /// `low<..<high`.
 pub fn open_range(low: i128, high: i128) -> Mem<SubtypeElement> {
     Ok(SubtypeElement::ValueRange {

@@ -5,8 +5,9 @@ use asn_memory::{List, Mem, Text};
 use asn_tree::{
     ASN1Information, ASN1Type, ASN1Value, Constraint, FixedValueField, InformationObject,
     InformationObjectClass, InformationObjectClassField, InformationObjectField,
-    InformationObjectFields, ObjectFieldIdentifier, Parameter, ParameterGovernor, Parameterization,
-    ParameterizationArgument, ToplevelDefinition, ToplevelInformationDefinition,
+    InformationObjectFields, InformationObjectSyntax, ObjectFieldIdentifier, Parameter,
+    ParameterGovernor, Parameterization, ParameterizationArgument, SyntaxApplication,
+    SyntaxExpression, SyntaxToken, ToplevelDefinition, ToplevelInformationDefinition,
     ToplevelTypeDefinition, ToplevelValueDefinition, TypeField,
 };
 use std::alloc::Global;
@@ -118,6 +119,53 @@ pub fn type_field(alloc: Global, name: &str) -> Mem<InformationObjectClassField>
     Ok(class_field(ObjectFieldIdentifier::MultipleValue(name), None))
 }
 
+/// `NAME ::= CLASS { fields } WITH SYNTAX { syntax }`.
+pub fn class_with_syntax(
+    alloc: Global,
+    name: &str,
+    fields: Mem<List<InformationObjectClassField>>,
+    syntax: Mem<List<SyntaxExpression>>,
+) -> Mem<ToplevelDefinition> {
+    let (fields, expressions) = both(fields, syntax)?;
+    let syntax = Some(InformationObjectSyntax { expressions });
+    let class = InformationObjectClass { fields, syntax };
+    let made = ToplevelInformationDefinition::from_class(alloc, &[], name, None, class)?;
+    Ok(ToplevelDefinition::Information(made))
+}
+
+/// A word of a syntax.
+pub fn literal(alloc: Global, word: &str) -> Mem<SyntaxExpression> {
+    let word = Text::new(alloc, word)?;
+    Ok(SyntaxExpression::Required(SyntaxToken::Literal(word)))
+}
+
+/// The place of a value in a syntax.
+pub fn value_place(alloc: Global, name: &str) -> Mem<SyntaxExpression> {
+    let field = ObjectFieldIdentifier::SingleValue(Text::new(alloc, name)?);
+    Ok(SyntaxExpression::Required(SyntaxToken::Field(field)))
+}
+
+/// The place of a type in a syntax.
+pub fn type_place(alloc: Global, name: &str) -> Mem<SyntaxExpression> {
+    let field = ObjectFieldIdentifier::MultipleValue(Text::new(alloc, name)?);
+    Ok(SyntaxExpression::Required(SyntaxToken::Field(field)))
+}
+
+/// A word in an object.
+pub fn word(alloc: Global, word: &str) -> Mem<SyntaxApplication> {
+    Ok(SyntaxApplication::Literal(Text::new(alloc, word)?))
+}
+
+/// A value in an object.
+pub fn value_item(value: Mem<ASN1Value>) -> Mem<SyntaxApplication> {
+    Ok(SyntaxApplication::ValueReference(value?))
+}
+
+/// A type in an object.
+pub fn type_item(ty: Mem<ASN1Type>) -> Mem<SyntaxApplication> {
+    Ok(SyntaxApplication::TypeReference(ty?))
+}
+
 /// `NAME ::= CLASS { fields }`.
 pub fn class_definition(
     alloc: Global,
@@ -148,15 +196,24 @@ pub fn given_type(alloc: Global, name: &str, ty: Mem<ASN1Type>) -> Mem<Informati
     Ok(InformationObjectField::TypeField(TypeField { identifier, ty }))
 }
 
+/// The fields of an object by their names.
+pub fn by_name(fields: Mem<List<InformationObjectField>>) -> Mem<InformationObjectFields> {
+    Ok(InformationObjectFields::DefaultSyntax(fields?))
+}
+
+/// The fields of an object in its class's own syntax.
+pub fn by_syntax(items: Mem<List<SyntaxApplication>>) -> Mem<InformationObjectFields> {
+    Ok(InformationObjectFields::CustomSyntax(items?))
+}
+
 /// `name CLASS ::= { fields }`.
 pub fn object_definition(
     alloc: Global,
     name: &str,
     class: &str,
-    fields: Mem<List<InformationObjectField>>,
+    fields: Mem<InformationObjectFields>,
 ) -> Mem<ToplevelDefinition> {
     let (class_name, fields) = both(Text::new(alloc, class), fields)?;
-    let fields = InformationObjectFields::DefaultSyntax(fields);
     let value = ASN1Information::Object(InformationObject { class_name, fields });
     let made = ToplevelInformationDefinition::named(alloc, name, value, class)?;
     Ok(ToplevelDefinition::Information(made))

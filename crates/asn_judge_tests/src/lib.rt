@@ -15,6 +15,8 @@ mod constraints;
 #[cfg(test)]
 mod definitions;
 #[cfg(test)]
+mod denoting;
+#[cfg(test)]
 mod heads;
 #[cfg(test)]
 mod judging;

@@ -2,8 +2,9 @@
 
 use crate::constraints::{alone, listed, partial, range, single};
 use crate::definitions::{
-    arguments, class_definition, given_type, given_value, object_definition, template,
-    type_argument, type_definition, type_dummy, type_field, value_definition, value_field,
+    arguments, by_name, by_syntax, class_definition, class_with_syntax, given_type, given_value,
+    literal, object_definition, template, type_argument, type_definition, type_dummy, type_field,
+    type_item, type_place, value_definition, value_field, value_item, value_place, word,
 };
 use crate::pairs::{list_of, with};
 use crate::parts::{components_of, extended, member, sequence, two_components};
@@ -18,7 +19,7 @@ use asn_memory::{List, Mem};
 use asn_shapes::{Answer, Tree};
 use asn_tree::{
     ASN1Type, ComponentPresence, InformationObjectClassField, InformationObjectField,
-    SequenceComponent, ToplevelDefinition,
+    SequenceComponent, SyntaxApplication, SyntaxExpression, ToplevelDefinition,
 };
 use std::alloc::Global;
 
@@ -58,7 +59,7 @@ fn given(alloc: Global) -> Mem<List<InformationObjectField>> {
 
 // object ATTR ::= { &id 5, &Type BOOLEAN }
 fn object(alloc: Global) -> Mem<ToplevelDefinition> {
-    object_definition(alloc, "object", "ATTR", given(alloc))
+    object_definition(alloc, "object", "ATTR", by_name(given(alloc)))
 }
 
 // any ATTR.&Type ::= ALL
@@ -152,6 +153,62 @@ fn fields_of_objects(rt: HostRuntime) {
             says(alloc, type_of(alloc, "object"), truth(true), Answer::Yes),
             says(alloc, type_of(alloc, "object"), whole(1), Answer::No),
             says(alloc, type_of(alloc, "missing"), whole(1), Answer::Unknown),
+        ]),
+        None
+    );
+}
+
+// ID &id TYPE &Type
+fn syntax(alloc: Global) -> Mem<List<SyntaxExpression>> {
+    let id = with(
+        list_of(alloc, literal(alloc, "ID")),
+        value_place(alloc, "&id"),
+    );
+    with(with(id, literal(alloc, "TYPE")), type_place(alloc, "&Type"))
+}
+
+// OWN ::= CLASS { &id INTEGER (0..9), &Type } WITH SYNTAX { ID &id TYPE &Type }
+fn own(alloc: Global) -> Mem<ToplevelDefinition> {
+    class_with_syntax(alloc, "OWN", fields(alloc), syntax(alloc))
+}
+
+fn items(alloc: Global) -> Mem<List<SyntaxApplication>> {
+    let id = with(list_of(alloc, word(alloc, "ID")), value_item(number(5)));
+    with(with(id, word(alloc, "TYPE")), type_item(boolean(alloc)))
+}
+
+// whole OWN ::= { ID 5 TYPE BOOLEAN }
+fn whole_object(alloc: Global) -> Mem<ToplevelDefinition> {
+    object_definition(alloc, "whole", "OWN", by_syntax(items(alloc)))
+}
+
+// half OWN ::= { ID }, which does not follow the syntax
+fn half_object(alloc: Global) -> Mem<ToplevelDefinition> {
+    let items = list_of(alloc, word(alloc, "ID"));
+    object_definition(alloc, "half", "OWN", by_syntax(items))
+}
+
+fn of_syntax(alloc: Global) -> Mem<List<ToplevelDefinition>> {
+    with(
+        with(list_of(alloc, own(alloc)), whole_object(alloc)),
+        half_object(alloc),
+    )
+}
+
+fn says_of_syntax(alloc: Global, ty: Mem<ASN1Type>, tree: Mem<Tree>, answer: Answer) -> Mem<bool> {
+    crate::judging::says(alloc, of_syntax(alloc), ty, tree, answer)
+}
+
+#[test]
+fn objects_in_their_own_syntax(rt: HostRuntime) {
+    let alloc = rt.alloc();
+    assert_eq!(rt;
+        first_wrong(&[
+            says_of_syntax(alloc, at_id(alloc, "whole"), whole(5), Answer::Yes),
+            says_of_syntax(alloc, at_id(alloc, "whole"), whole(6), Answer::No),
+            says_of_syntax(alloc, type_of(alloc, "whole"), truth(true), Answer::Yes),
+            says_of_syntax(alloc, type_of(alloc, "whole"), whole(1), Answer::No),
+            says_of_syntax(alloc, at_id(alloc, "half"), whole(5), Answer::Unknown),
         ]),
         None
     );

@@ -2,8 +2,8 @@
 //! 51.4).
 
 use crate::constraints::{
-    alone, behind, between, except, extensible, from_on, in_set, one, only, open_range, or, range,
-    single, then, up_to, whole_range,
+    alone, behind, between, except, extensible, extensible_range, from_on, in_set, one, only,
+    open_range, or, range, single, then, up_to, whole_range,
 };
 use crate::judging::{no, yes};
 use crate::pairs::{list_of, with};
@@ -139,7 +139,12 @@ fn in_a_row(alloc: Global) -> Mem<ASN1Type> {
     integer_with(then(zero_to_ten(alloc), range(5, 20)))
 }
 
-// INTEGER (0..9, ...)
+// INTEGER (0..9, ...), the marker read with the range
+fn with_a_marker_of_the_range(alloc: Global) -> Mem<ASN1Type> {
+    integer_with(alone(alloc, extensible_range(0, 9)))
+}
+
+// INTEGER (0..9, ...), the marker read with the set
 fn with_a_marker(alloc: Global) -> Mem<ASN1Type> {
     integer_with(extensible(alloc, one(range(0, 9))))
 }
@@ -154,6 +159,8 @@ fn constraints_in_a_row_and_markers(rt: HostRuntime) {
             no(alloc, in_a_row(alloc), whole(15)),
             yes(alloc, with_a_marker(alloc), whole(9)),
             no(alloc, with_a_marker(alloc), whole(10)),
+            yes(alloc, with_a_marker_of_the_range(alloc), whole(9)),
+            no(alloc, with_a_marker_of_the_range(alloc), whole(10)),
         ]),
         None
     );

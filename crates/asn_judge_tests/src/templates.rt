@@ -11,7 +11,7 @@ use crate::trees::{
     fields_of_one, fields_of_two, no_elements, no_fields, nothing, one_element, text, truth, whole,
 };
 use crate::types::{
-    boolean_with, free, ia5_with, integer_with, named_with, null, optional, required,
+    boolean_with, by_default, free, ia5_with, integer_with, named_with, null, optional, required,
     sequence_of_with, sequence_with,
 };
 use crate::written::{all, name_value, null_value, number, text_value, truth_value};
@@ -520,6 +520,66 @@ fn letters(alloc: Global) -> Mem<ToplevelDefinition> {
 fn one_value(alloc: Global) -> Mem<ToplevelDefinition> {
     let ty = integer_with(alone(alloc, single(name_value(alloc, "value"))));
     template(alloc, "One", number_dummy(alloc, "value"), ty)
+}
+
+// INTEGER: lower, BOOLEAN: flag
+fn lower_and_flag(alloc: Global) -> Mem<List<ParameterizationArgument>> {
+    let flag = value_dummy(alloc, boolean(alloc), "flag");
+    with(number_dummy(alloc, "lower"), flag)
+}
+
+// int-value INTEGER (lower..12), bool-value BOOLEAN DEFAULT flag
+fn int_and_bool(alloc: Global) -> Mem<List<SequenceOrSetMember>> {
+    let ends = between(name_value(alloc, "lower"), number(12));
+    let first = required(alloc, "int-value", integer_with(alone(alloc, ends)));
+    let flag = name_value(alloc, "flag");
+    with(
+        list_of(alloc, first),
+        by_default(alloc, "bool-value", boolean(alloc), flag),
+    )
+}
+
+// ParamType { INTEGER: lower, BOOLEAN: flag } ::= SEQUENCE { int-value INTEGER (lower..12), bool-value BOOLEAN DEFAULT flag }
+fn param_type(alloc: Global) -> Mem<ToplevelDefinition> {
+    let ty = sequence_with(alloc, int_and_bool(alloc), free(alloc));
+    template(alloc, "ParamType", lower_and_flag(alloc), ty)
+}
+
+// ParamType { 2, TRUE }
+fn impl_type(alloc: Global) -> Mem<ASN1Type> {
+    let list = list_of(alloc, value_argument(number(2)));
+    let list = arguments(alloc, with(list, value_argument(truth_value(true))));
+    named_with(alloc, "ParamType", list)
+}
+
+fn of_impl_type(alloc: Global) -> Mem<List<ToplevelDefinition>> {
+    list_of(alloc, param_type(alloc))
+}
+
+fn says_of_impl_type(alloc: Global, tree: Mem<Tree>, answer: Answer) -> Mem<bool> {
+    crate::judging::says(alloc, of_impl_type(alloc), impl_type(alloc), tree, answer)
+}
+
+fn int_value(alloc: Global, number: i128) -> Mem<Tree> {
+    fields_of_one(alloc, "int-value", whole(number))
+}
+
+fn with_bool_value(alloc: Global, value: Mem<Tree>) -> Mem<Tree> {
+    fields_of_two(alloc, "int-value", whole(12), "bool-value", value)
+}
+
+#[test]
+fn templates_of_two_values(rt: HostRuntime) {
+    let alloc = rt.alloc();
+    assert_eq!(rt;
+        first_wrong(&[
+            says_of_impl_type(alloc, int_value(alloc, 2), Answer::Yes),
+            says_of_impl_type(alloc, int_value(alloc, 1), Answer::No),
+            says_of_impl_type(alloc, with_bool_value(alloc, truth(false)), Answer::Yes),
+            says_of_impl_type(alloc, with_bool_value(alloc, whole(0)), Answer::No),
+        ]),
+        None
+    );
 }
 
 fn of_others(alloc: Global) -> Mem<List<ToplevelDefinition>> {

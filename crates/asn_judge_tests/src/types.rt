@@ -3,11 +3,11 @@
 use crate::pairs::{both, boxed};
 use asn_memory::{List, Mem, Text};
 use asn_tree::{
-    ASN1Type, BitString, Boolean, CharacterString, CharacterStringType, Choice, ChoiceOption,
-    ChoiceSelectionType, Constraint, DeclarationElsewhere, DistinguishedValue, Enumeral,
-    Enumerated, GeneralizedTime, InformationObjectFieldReference, Integer, ObjectFieldIdentifier,
-    ObjectIdentifier, OctetString, Real, SequenceOrSet, SequenceOrSetMember, SequenceOrSetOf, Time,
-    UTCTime,
+    ASN1Type, ASN1Value, BitString, Boolean, CharacterString, CharacterStringType, Choice,
+    ChoiceOption, ChoiceSelectionType, Constraint, DeclarationElsewhere, DistinguishedValue,
+    Enumeral, Enumerated, GeneralizedTime, InformationObjectFieldReference, Integer,
+    ObjectFieldIdentifier, ObjectIdentifier, OctetString, Real, SequenceOrSet, SequenceOrSetMember,
+    SequenceOrSetOf, Time, UTCTime,
 };
 use std::alloc::Global;
 
@@ -186,18 +186,33 @@ pub fn optional(alloc: Global, name: &str, ty: Mem<ASN1Type>) -> Mem<SequenceOrS
     member_with(alloc, name, ty, true, free(alloc))
 }
 
-/// INTEGER, a member that is DEFAULT 1.
-pub fn one_by_default(alloc: Global, name: &str) -> Mem<SequenceOrSetMember> {
-    let (name, constraints) = both(Text::new(alloc, name), free(alloc))?;
+/// A member with a DEFAULT.
+pub fn by_default(
+    alloc: Global,
+    name: &str,
+    ty: Mem<ASN1Type>,
+    value: Mem<ASN1Value>,
+) -> Mem<SequenceOrSetMember> {
+    let (name, (ty, value)) = both(Text::new(alloc, name), both(ty, value))?;
     Ok(SequenceOrSetMember {
         name,
         tag: None,
-        ty: crate::parts::integer(alloc),
-        default_value: Some(asn_tree::ASN1Value::Integer(1)),
+        ty,
+        default_value: Some(value),
         is_optional: true,
         is_recursive: false,
-        constraints,
+        constraints: List::new(alloc),
     })
+}
+
+/// INTEGER, a member that is DEFAULT 1.
+pub fn one_by_default(alloc: Global, name: &str) -> Mem<SequenceOrSetMember> {
+    by_default(
+        alloc,
+        name,
+        integer_with(free(alloc)),
+        Ok(ASN1Value::Integer(1)),
+    )
 }
 
 fn struct_of(
