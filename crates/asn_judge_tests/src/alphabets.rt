@@ -7,7 +7,7 @@ use crate::constraints::{
 use crate::judging::{no, yes};
 use crate::rows::first_wrong;
 use crate::trees::{text, whole};
-use crate::types::{ia5_with, integer_with, string_with, utc_time_with};
+use crate::types::{ia5_with, number_in, string_with, utc_time_with};
 use crate::written::{all, number, text_value};
 use asn_memory::Mem;
 use asn_tree::{ASN1Type, ASN1Value, CharacterStringType, ElementOrSetOperation, SubtypeElement};
@@ -72,16 +72,6 @@ fn of_all_but(alloc: Global) -> Mem<ASN1Type> {
     )
 }
 
-// IA5String (FROM ("ab".."c")): an end of two characters is none
-fn of_a_long_end(alloc: Global) -> Mem<ASN1Type> {
-    ia5(alloc, one(between(letter(alloc, "ab"), letter(alloc, "c"))))
-}
-
-// IA5String (FROM (5)): in FROM every value is a text
-fn of_a_number(alloc: Global) -> Mem<ASN1Type> {
-    ia5(alloc, one(single(number(5))))
-}
-
 // A set in FROM is asked of each character alone, and not of the whole text.
 #[test]
 fn sets_of_characters(rt: HostRuntime) {
@@ -92,40 +82,17 @@ fn sets_of_characters(rt: HostRuntime) {
             no(alloc, of_a_union(alloc), text(alloc, "ay")),
             yes(alloc, of_all_but(alloc), text(alloc, "ab")),
             no(alloc, of_all_but(alloc), text(alloc, "ax")),
-            no(alloc, of_a_long_end(alloc), text(alloc, "b")),
-            no(alloc, of_a_number(alloc), text(alloc, "5")),
+            // IA5String (FROM ("ab".."c")): an end of two characters is none
+            no(alloc, ia5(alloc, one(between(letter(alloc, "ab"), letter(alloc, "c")))), text(alloc, "b")),
+            // IA5String (FROM (5)): in FROM every value is a text
+            no(alloc, ia5(alloc, one(single(number(5)))), text(alloc, "5")),
         ]),
         None
     );
 }
 
-// NumericString (FROM (MIN<..MAX)): the least character of the type is the space
-fn without_least(alloc: Global) -> Mem<ASN1Type> {
-    numeric(alloc, whole_range(true, false))
-}
-
-// NumericString (FROM (MIN..<MAX)): the greatest is 9
-fn without_greatest(alloc: Global) -> Mem<ASN1Type> {
-    numeric(alloc, whole_range(false, true))
-}
-
-// IA5String (FROM (IA5String (FROM ("a".."c"))))
-fn of_a_type(alloc: Global) -> Mem<ASN1Type> {
-    ia5(alloc, one(included(of_a_range(alloc))))
-}
-
 fn digits(alloc: Global) -> Mem<SubtypeElement> {
     from(alloc, one(between(letter(alloc, "0"), letter(alloc, "9"))))
-}
-
-// UTCTime (FROM ("0".."9"))
-fn digits_of_a_time(alloc: Global) -> Mem<ASN1Type> {
-    utc_time_with(alone(alloc, digits(alloc)))
-}
-
-// INTEGER (FROM ("0".."9"))
-fn digits_of_a_number(alloc: Global) -> Mem<ASN1Type> {
-    integer_with(alone(alloc, digits(alloc)))
 }
 
 #[test]
@@ -133,27 +100,22 @@ fn sets_of_types(rt: HostRuntime) {
     let alloc = rt.alloc();
     assert_eq!(rt;
         first_wrong(&[
-            no(alloc, without_least(alloc), text(alloc, "1 2")),
-            yes(alloc, without_least(alloc), text(alloc, "09")),
-            no(alloc, without_greatest(alloc), text(alloc, "09")),
-            yes(alloc, of_a_type(alloc), text(alloc, "cab")),
-            no(alloc, of_a_type(alloc), text(alloc, "d")),
-            yes(alloc, digits_of_a_time(alloc), text(alloc, "0906011200")),
-            no(alloc, digits_of_a_time(alloc), text(alloc, "0906011200Z")),
-            no(alloc, digits_of_a_number(alloc), whole(5)),
+            // NumericString (FROM (MIN<..MAX)): the least character of the type is the space
+            no(alloc, numeric(alloc, whole_range(true, false)), text(alloc, "1 2")),
+            yes(alloc, numeric(alloc, whole_range(true, false)), text(alloc, "09")),
+            // NumericString (FROM (MIN..<MAX)): the greatest is 9
+            no(alloc, numeric(alloc, whole_range(false, true)), text(alloc, "09")),
+            // IA5String (FROM (IA5String (FROM ("a".."c"))))
+            yes(alloc, ia5(alloc, one(included(of_a_range(alloc)))), text(alloc, "cab")),
+            no(alloc, ia5(alloc, one(included(of_a_range(alloc)))), text(alloc, "d")),
+            // UTCTime (FROM ("0".."9"))
+            yes(alloc, utc_time_with(alone(alloc, digits(alloc))), text(alloc, "0906011200")),
+            no(alloc, utc_time_with(alone(alloc, digits(alloc))), text(alloc, "0906011200Z")),
+            // INTEGER (FROM ("0".."9"))
+            no(alloc, number_in(alloc, digits(alloc)), whole(5)),
         ]),
         None
     );
-}
-
-// IA5String ("a".."c"): outside FROM a range is one of whole numbers
-fn range_of_texts(alloc: Global) -> Mem<ASN1Type> {
-    ia5_with(alone(alloc, between(letter(alloc, "a"), letter(alloc, "c"))))
-}
-
-// IA5String (MIN..5)
-fn range_of_numbers(alloc: Global) -> Mem<ASN1Type> {
-    ia5_with(in_set(alloc, one(up_to(5))))
 }
 
 #[test]
@@ -161,8 +123,10 @@ fn ranges_on_texts(rt: HostRuntime) {
     let alloc = rt.alloc();
     assert_eq!(rt;
         first_wrong(&[
-            no(alloc, range_of_texts(alloc), text(alloc, "b")),
-            no(alloc, range_of_numbers(alloc), text(alloc, "b")),
+            // IA5String ("a".."c"): outside FROM a range is one of whole numbers
+            no(alloc, ia5_with(alone(alloc, between(letter(alloc, "a"), letter(alloc, "c")))), text(alloc, "b")),
+            // IA5String (MIN..5)
+            no(alloc, ia5_with(in_set(alloc, one(up_to(5)))), text(alloc, "b")),
         ]),
         None
     );

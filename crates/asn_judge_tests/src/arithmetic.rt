@@ -15,16 +15,19 @@ fn integers(alloc: Global, set: Mem<ElementOrSetOperation>) -> Mem<ASN1Type> {
     integer_with(in_set(alloc, set))
 }
 
-// 5..20 EXCEPT 7
-fn but_seven(alloc: Global) -> Mem<ElementOrSetOperation> {
-    except(alloc, range(5, 20), one(only(7)))
-}
-
 // INTEGER (1 | 2..9 ^ 5..20 EXCEPT 7): 1, 5, 6, 8 and 9
 fn all_three(alloc: Global) -> Mem<ASN1Type> {
     integers(
         alloc,
-        or(alloc, only(1), and(alloc, range(2, 9), but_seven(alloc))),
+        or(
+            alloc,
+            only(1),
+            and(
+                alloc,
+                range(2, 9),
+                except(alloc, range(5, 20), one(only(7))),
+            ),
+        ),
     )
 }
 
@@ -95,39 +98,23 @@ fn missing(alloc: Global) -> Mem<ElementOrSetOperation> {
     one(single(name_value(alloc, "missing")))
 }
 
-// INTEGER (5 | missing)
-fn five_or_missing(alloc: Global) -> Mem<ASN1Type> {
-    integers(alloc, or(alloc, only(5), missing(alloc)))
-}
-
-// INTEGER (5 ^ missing)
-fn five_and_missing(alloc: Global) -> Mem<ASN1Type> {
-    integers(alloc, and(alloc, only(5), missing(alloc)))
-}
-
-// INTEGER (ALL EXCEPT missing)
-fn all_but_missing(alloc: Global) -> Mem<ASN1Type> {
-    integers(alloc, except(alloc, single(all()), missing(alloc)))
-}
-
-// INTEGER (5 EXCEPT missing)
-fn five_but_missing(alloc: Global) -> Mem<ASN1Type> {
-    integers(alloc, except(alloc, only(5), missing(alloc)))
-}
-
 // A yes in a union and a no in an intersection stay, whatever the other side is.
 #[test]
 fn operators_on_what_is_not_known(rt: HostRuntime) {
     let alloc = rt.alloc();
     assert_eq!(rt;
         first_wrong(&[
-            yes(alloc, five_or_missing(alloc), whole(5)),
-            unknown(alloc, five_or_missing(alloc), whole(6)),
-            unknown(alloc, five_and_missing(alloc), whole(5)),
-            no(alloc, five_and_missing(alloc), whole(6)),
-            unknown(alloc, all_but_missing(alloc), whole(5)),
-            unknown(alloc, five_but_missing(alloc), whole(5)),
-            no(alloc, five_but_missing(alloc), whole(6)),
+            // INTEGER (5 | missing)
+            yes(alloc, integers(alloc, or(alloc, only(5), missing(alloc))), whole(5)),
+            unknown(alloc, integers(alloc, or(alloc, only(5), missing(alloc))), whole(6)),
+            // INTEGER (5 ^ missing)
+            unknown(alloc, integers(alloc, and(alloc, only(5), missing(alloc))), whole(5)),
+            no(alloc, integers(alloc, and(alloc, only(5), missing(alloc))), whole(6)),
+            // INTEGER (ALL EXCEPT missing)
+            unknown(alloc, integers(alloc, except(alloc, single(all()), missing(alloc))), whole(5)),
+            // INTEGER (5 EXCEPT missing)
+            unknown(alloc, integers(alloc, except(alloc, only(5), missing(alloc))), whole(5)),
+            no(alloc, integers(alloc, except(alloc, only(5), missing(alloc))), whole(6)),
         ]),
         None
     );

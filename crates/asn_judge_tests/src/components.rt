@@ -12,39 +12,30 @@ use crate::trees::{
     whole,
 };
 use crate::types::{
-    boolean_with, choice_with, free, ia5_with, integer_with, one_by_default, option, optional,
+    boolean, choice_with, free, ia5_with, integer, number_in, one_by_default, option, optional,
     real_with, required, sequence_of_with, sequence_with, set_of_with,
 };
 use crate::written::truth_value;
 use asn_memory::{List, Mem};
 use asn_shapes::Tree;
 use asn_tree::{
-    ASN1Type, ChoiceOption, ComponentPresence, ConstrainedComponent, Constraint,
-    SequenceOrSetMember, SubtypeElement,
+    ASN1Type, ChoiceOption, ComponentPresence, ConstrainedComponent, SequenceOrSetMember,
+    SubtypeElement,
 };
 use std::alloc::Global;
 
-fn integer(alloc: Global) -> Mem<ASN1Type> {
-    integer_with(free(alloc))
-}
-
-fn digits(alloc: Global) -> Mem<SubtypeElement> {
-    with_component(alone(alloc, range(0, 9)))
-}
-
 // SEQUENCE OF INTEGER (WITH COMPONENT (0..9))
 fn list_of_digits(alloc: Global) -> Mem<ASN1Type> {
-    sequence_of_with(alloc, integer(alloc), alone(alloc, digits(alloc)))
-}
-
-// INTEGER (WITH COMPONENT (0..9))
-fn no_list(alloc: Global) -> Mem<ASN1Type> {
-    integer_with(alone(alloc, digits(alloc)))
+    sequence_of_with(
+        alloc,
+        integer(alloc),
+        alone(alloc, with_component(alone(alloc, range(0, 9)))),
+    )
 }
 
 // SET OF INTEGER (0..9) (WITH COMPONENT (MIN<..MAX)): the elements' own type is the parent
 fn without_least(alloc: Global) -> Mem<ASN1Type> {
-    let digit = integer_with(alone(alloc, range(0, 9)));
+    let digit = number_in(alloc, range(0, 9));
     let marked = with_component(alone(alloc, whole_range(true, false)));
     set_of_with(alloc, digit, alone(alloc, marked))
 }
@@ -71,7 +62,8 @@ fn with_component_on_lists(rt: HostRuntime) {
                 elements(alloc, whole(1), whole(10))
             ),
             yes(alloc, list_of_digits(alloc), no_elements(alloc)),
-            no(alloc, no_list(alloc), whole(5)),
+            // INTEGER (WITH COMPONENT (0..9))
+            no(alloc, number_in(alloc, with_component(alone(alloc, range(0, 9)))), whole(5)),
             no(alloc, without_least(alloc), one_element(alloc, whole(0))),
             yes(alloc, without_least(alloc), one_element(alloc, whole(1))),
             yes(
@@ -92,7 +84,7 @@ fn with_component_on_lists(rt: HostRuntime) {
 // a INTEGER, b BOOLEAN OPTIONAL, c INTEGER DEFAULT 1
 fn members(alloc: Global) -> Mem<List<SequenceOrSetMember>> {
     let first = list_of(alloc, required(alloc, "a", integer(alloc)));
-    let two = with(first, optional(alloc, "b", boolean_with(free(alloc))));
+    let two = with(first, optional(alloc, "b", boolean(alloc)));
     with(two, one_by_default(alloc, "c"))
 }
 
@@ -140,10 +132,6 @@ fn a_and_b(alloc: Global, b: bool) -> Mem<Tree> {
     fields_of_two(alloc, "a", whole(1), "b", truth(b))
 }
 
-fn a_and_c(alloc: Global) -> Mem<Tree> {
-    fields_of_two(alloc, "a", whole(1), "c", whole(2))
-}
-
 // Without `...` a member marked OPTIONAL or DEFAULT that is not listed is absent.
 #[test]
 fn members_that_are_not_listed(rt: HostRuntime) {
@@ -153,37 +141,22 @@ fn members_that_are_not_listed(rt: HostRuntime) {
             yes(alloc, full_of_a(alloc), a(alloc, 1)),
             no(alloc, full_of_a(alloc), a(alloc, 2)),
             no(alloc, full_of_a(alloc), a_and_b(alloc, true)),
-            no(alloc, full_of_a(alloc), a_and_c(alloc)),
+            no(
+                alloc,
+                full_of_a(alloc),
+                fields_of_two(alloc, "a", whole(1), "c", whole(2))
+            ),
             yes(alloc, partial_of_a(alloc), a(alloc, 1)),
             no(alloc, partial_of_a(alloc), a(alloc, 2)),
             yes(alloc, partial_of_a(alloc), a_and_b(alloc, true)),
-            yes(alloc, partial_of_a(alloc), a_and_c(alloc)),
+            yes(
+                alloc,
+                partial_of_a(alloc),
+                fields_of_two(alloc, "a", whole(1), "c", whole(2))
+            ),
         ]),
         None
     );
-}
-
-// { a (1), b }
-fn full_of_a_and_b(alloc: Global) -> Mem<ASN1Type> {
-    sequence(alloc, full(a_and_listed(alloc, "b")))
-}
-
-// { a (1), c }
-fn full_of_a_and_c(alloc: Global) -> Mem<ASN1Type> {
-    sequence(alloc, full(a_and_listed(alloc, "c")))
-}
-
-// { b OPTIONAL }
-fn full_of_b_optional(alloc: Global) -> Mem<ASN1Type> {
-    sequence(alloc, full(b_listed(alloc, ComponentPresence::Optional)))
-}
-
-// { ..., b }
-fn partial_of_b(alloc: Global) -> Mem<ASN1Type> {
-    sequence(
-        alloc,
-        partial(b_listed(alloc, ComponentPresence::Unspecified)),
-    )
 }
 
 // Without `...` a listed member that is marked OPTIONAL and has no word must be present; one with a DEFAULT need not.
@@ -192,42 +165,32 @@ fn members_without_a_word(rt: HostRuntime) {
     let alloc = rt.alloc();
     assert_eq!(rt;
         first_wrong(&[
-            no(alloc, full_of_a_and_b(alloc), a(alloc, 1)),
-            yes(alloc, full_of_a_and_b(alloc), a_and_b(alloc, true)),
-            yes(alloc, full_of_a_and_c(alloc), a(alloc, 1)),
-            yes(alloc, full_of_a_and_c(alloc), a_and_c(alloc)),
-            yes(alloc, full_of_b_optional(alloc), a(alloc, 1)),
-            yes(alloc, full_of_b_optional(alloc), a_and_b(alloc, true)),
-            yes(alloc, partial_of_b(alloc), a(alloc, 1)),
-            yes(alloc, partial_of_b(alloc), a_and_b(alloc, true)),
+            // { a (1), b }
+            no(alloc, sequence(alloc, full(a_and_listed(alloc, "b"))), a(alloc, 1)),
+            yes(alloc, sequence(alloc, full(a_and_listed(alloc, "b"))), a_and_b(alloc, true)),
+            // { a (1), c }
+            yes(alloc, sequence(alloc, full(a_and_listed(alloc, "c"))), a(alloc, 1)),
+            yes(alloc, sequence(alloc, full(a_and_listed(alloc, "c"))), fields_of_two(alloc, "a", whole(1), "c", whole(2))),
+            // { b OPTIONAL }
+            yes(alloc, sequence(alloc, full(b_listed(alloc, ComponentPresence::Optional))), a(alloc, 1)),
+            yes(alloc, sequence(alloc, full(b_listed(alloc, ComponentPresence::Optional))), a_and_b(alloc, true)),
+            // { ..., b }
+            yes(alloc, sequence(alloc, partial(b_listed(alloc, ComponentPresence::Unspecified))), a(alloc, 1)),
+            yes(alloc, sequence(alloc, partial(b_listed(alloc, ComponentPresence::Unspecified))), a_and_b(alloc, true)),
         ]),
         None
     );
 }
 
-// { ..., b PRESENT }
-fn b_present(alloc: Global) -> Mem<ASN1Type> {
-    sequence(alloc, partial(b_listed(alloc, ComponentPresence::Present)))
-}
-
-// { ..., b ABSENT }
-fn b_absent(alloc: Global) -> Mem<ASN1Type> {
-    sequence(alloc, partial(b_listed(alloc, ComponentPresence::Absent)))
-}
-
-fn true_alone(alloc: Global) -> Mem<List<Constraint>> {
-    alone(alloc, single(truth_value(true)))
-}
-
 // { ..., b (TRUE) OPTIONAL }
 fn b_true(alloc: Global) -> Mem<ASN1Type> {
-    let b = listed_with(alloc, "b", true_alone(alloc), ComponentPresence::Optional);
+    let b = listed_with(
+        alloc,
+        "b",
+        alone(alloc, single(truth_value(true))),
+        ComponentPresence::Optional,
+    );
     sequence(alloc, partial(list_of(alloc, b)))
-}
-
-// { ..., z }
-fn z_listed(alloc: Global) -> Mem<ASN1Type> {
-    sequence(alloc, partial(list_of(alloc, unspecified(alloc, "z"))))
 }
 
 #[test]
@@ -235,14 +198,17 @@ fn words_of_presence(rt: HostRuntime) {
     let alloc = rt.alloc();
     assert_eq!(rt;
         first_wrong(&[
-            no(alloc, b_present(alloc), a(alloc, 1)),
-            yes(alloc, b_present(alloc), a_and_b(alloc, false)),
-            yes(alloc, b_absent(alloc), a(alloc, 1)),
-            no(alloc, b_absent(alloc), a_and_b(alloc, false)),
+            // { ..., b PRESENT }
+            no(alloc, sequence(alloc, partial(b_listed(alloc, ComponentPresence::Present))), a(alloc, 1)),
+            yes(alloc, sequence(alloc, partial(b_listed(alloc, ComponentPresence::Present))), a_and_b(alloc, false)),
+            // { ..., b ABSENT }
+            yes(alloc, sequence(alloc, partial(b_listed(alloc, ComponentPresence::Absent))), a(alloc, 1)),
+            no(alloc, sequence(alloc, partial(b_listed(alloc, ComponentPresence::Absent))), a_and_b(alloc, false)),
             yes(alloc, b_true(alloc), a(alloc, 1)),
             yes(alloc, b_true(alloc), a_and_b(alloc, true)),
             no(alloc, b_true(alloc), a_and_b(alloc, false)),
-            unknown(alloc, z_listed(alloc), a(alloc, 1)),
+            // { ..., z }
+            unknown(alloc, sequence(alloc, partial(list_of(alloc, unspecified(alloc, "z")))), a(alloc, 1)),
         ]),
         None
     );
@@ -251,7 +217,7 @@ fn words_of_presence(rt: HostRuntime) {
 // i INTEGER, b BOOLEAN
 fn options(alloc: Global) -> Mem<List<ChoiceOption>> {
     let first = list_of(alloc, option(alloc, "i", integer(alloc)));
-    with(first, option(alloc, "b", boolean_with(free(alloc))))
+    with(first, option(alloc, "b", boolean(alloc)))
 }
 
 // CHOICE { i INTEGER, b BOOLEAN } with this constraint
@@ -263,34 +229,11 @@ fn i_listed(alloc: Global, presence: ComponentPresence) -> Mem<List<ConstrainedC
     list_of(alloc, listed(alloc, "i", presence))
 }
 
-// { i }
-fn full_of_i(alloc: Global) -> Mem<ASN1Type> {
-    choice(alloc, full(i_listed(alloc, ComponentPresence::Unspecified)))
-}
-
-// { ..., i PRESENT }
-fn i_present(alloc: Global) -> Mem<ASN1Type> {
-    choice(alloc, partial(i_listed(alloc, ComponentPresence::Present)))
-}
-
-// { ..., i ABSENT }
-fn i_absent(alloc: Global) -> Mem<ASN1Type> {
-    choice(alloc, partial(i_listed(alloc, ComponentPresence::Absent)))
-}
-
 // { ..., i (0..3) }
 fn i_small(alloc: Global) -> Mem<ASN1Type> {
     let small = alone(alloc, range(0, 3));
     let i = listed_with(alloc, "i", small, ComponentPresence::Unspecified);
     choice(alloc, partial(list_of(alloc, i)))
-}
-
-fn i(alloc: Global) -> Mem<Tree> {
-    chosen(alloc, "i", whole(5))
-}
-
-fn b(alloc: Global) -> Mem<Tree> {
-    chosen(alloc, "b", truth(true))
 }
 
 // Without `...` an alternative that is not listed is not chosen; PRESENT asks that it is chosen, ABSENT that it is not.
@@ -299,14 +242,17 @@ fn with_components_on_choices(rt: HostRuntime) {
     let alloc = rt.alloc();
     assert_eq!(rt;
         first_wrong(&[
-            yes(alloc, full_of_i(alloc), i(alloc)),
-            no(alloc, full_of_i(alloc), b(alloc)),
-            yes(alloc, i_present(alloc), i(alloc)),
-            no(alloc, i_present(alloc), b(alloc)),
-            no(alloc, i_absent(alloc), i(alloc)),
-            yes(alloc, i_absent(alloc), b(alloc)),
-            no(alloc, i_small(alloc), i(alloc)),
-            yes(alloc, i_small(alloc), b(alloc)),
+            // { i }
+            yes(alloc, choice(alloc, full(i_listed(alloc, ComponentPresence::Unspecified))), chosen(alloc, "i", whole(5))),
+            no(alloc, choice(alloc, full(i_listed(alloc, ComponentPresence::Unspecified))), chosen(alloc, "b", truth(true))),
+            // { ..., i PRESENT }
+            yes(alloc, choice(alloc, partial(i_listed(alloc, ComponentPresence::Present))), chosen(alloc, "i", whole(5))),
+            no(alloc, choice(alloc, partial(i_listed(alloc, ComponentPresence::Present))), chosen(alloc, "b", truth(true))),
+            // { ..., i ABSENT }
+            no(alloc, choice(alloc, partial(i_listed(alloc, ComponentPresence::Absent))), chosen(alloc, "i", whole(5))),
+            yes(alloc, choice(alloc, partial(i_listed(alloc, ComponentPresence::Absent))), chosen(alloc, "b", truth(true))),
+            no(alloc, i_small(alloc), chosen(alloc, "i", whole(5))),
+            yes(alloc, i_small(alloc), chosen(alloc, "b", truth(true))),
         ]),
         None
     );
@@ -318,19 +264,9 @@ fn mantissa(alloc: Global) -> Mem<SubtypeElement> {
     partial(list_of(alloc, listed))
 }
 
-// INTEGER (WITH COMPONENTS { ..., mantissa (1) })
-fn parts_of_a_number(alloc: Global) -> Mem<ASN1Type> {
-    integer_with(alone(alloc, mantissa(alloc)))
-}
-
-// REAL (WITH COMPONENTS { ..., mantissa (1) }): constraints on REAL count as true
-fn parts_of_a_real(alloc: Global) -> Mem<ASN1Type> {
-    real_with(alone(alloc, mantissa(alloc)))
-}
-
 // a INTEGER (0..9)
 fn digit_member(alloc: Global) -> Mem<List<SequenceOrSetMember>> {
-    let digit = integer_with(alone(alloc, range(0, 9)));
+    let digit = number_in(alloc, range(0, 9));
     list_of(alloc, required(alloc, "a", digit))
 }
 
@@ -366,8 +302,10 @@ fn with_components_on_others(rt: HostRuntime) {
     let alloc = rt.alloc();
     assert_eq!(rt;
         first_wrong(&[
-            no(alloc, parts_of_a_number(alloc), whole(1)),
-            yes(alloc, parts_of_a_real(alloc), real(2, 0)),
+            // INTEGER (WITH COMPONENTS { ..., mantissa (1) })
+            no(alloc, number_in(alloc, mantissa(alloc)), whole(1)),
+            // REAL (WITH COMPONENTS { ..., mantissa (1) }): constraints on REAL count as true
+            yes(alloc, real_with(alone(alloc, mantissa(alloc))), real(2, 0)),
             no(alloc, a_without_least(alloc), a(alloc, 0)),
             yes(alloc, a_without_least(alloc), a(alloc, 1)),
             yes(alloc, two_in_a_row(alloc), a_and_b(alloc, true)),

@@ -8,8 +8,8 @@ use crate::pairs::{both, list_of, with};
 use crate::rows::first_wrong;
 use crate::trees::{fields_of_one, identifier, item, opaque, real, truth, whole};
 use crate::types::{
-    boolean_with, enumerated_with, free, identifier_with, integer_with, item_of, named_number,
-    named_with, numbered_with, optional, real_with, sequence_with, type_field_of_class,
+    boolean, enumerated_with, free, identifier_with, integer, item_of, named_number, named_with,
+    numbered_with, optional, real_with, sequence_with, type_field_of_class,
 };
 use crate::written::{
     all, identifier_value, name_value, number, one_field_value, path_value, truth_value,
@@ -22,47 +22,10 @@ use asn_shapes::{Answer, Tree};
 use asn_tree::{ASN1Type, ASN1Value, ToplevelDefinition};
 use std::alloc::Global;
 
-fn integer(alloc: Global) -> Mem<ASN1Type> {
-    integer_with(free(alloc))
-}
-
-// INTEGER { low(1) }
-fn with_a_name(alloc: Global) -> Mem<ASN1Type> {
-    numbered_with(list_of(alloc, named_number(alloc, "low", 1)), free(alloc))
-}
-
-fn boolean(alloc: Global) -> Mem<ASN1Type> {
-    boolean_with(free(alloc))
-}
-
-// low INTEGER ::= 7
-fn low(alloc: Global) -> Mem<ToplevelDefinition> {
-    value_definition(alloc, "low", integer(alloc), number(7))
-}
-
-// flag BOOLEAN ::= TRUE
-fn flag(alloc: Global) -> Mem<ToplevelDefinition> {
-    value_definition(alloc, "flag", boolean(alloc), truth_value(true))
-}
-
-// any TYPE-IDENTIFIER.&Type ::= ALL
-fn any(alloc: Global) -> Mem<ToplevelDefinition> {
-    value_definition(alloc, "any", open_type(alloc), all())
-}
-
 // Colour ::= ENUMERATED { low(3) }
 fn colour(alloc: Global) -> Mem<ToplevelDefinition> {
     let items = list_of(alloc, item_of(alloc, "low", 3));
     type_definition(alloc, "Colour", enumerated_with(items, free(alloc)))
-}
-
-// ATTR ::= CLASS { &id INTEGER }
-fn attr(alloc: Global) -> Mem<ToplevelDefinition> {
-    class_definition(
-        alloc,
-        "ATTR",
-        list_of(alloc, value_field(alloc, "&id", integer(alloc))),
-    )
 }
 
 // object ATTR ::= { &id 5 }
@@ -72,9 +35,26 @@ fn object(alloc: Global) -> Mem<ToplevelDefinition> {
 }
 
 fn definitions(alloc: Global) -> Mem<List<ToplevelDefinition>> {
-    let first = with(list_of(alloc, low(alloc)), flag(alloc));
-    let second = with(with(first, any(alloc)), colour(alloc));
-    with(with(second, attr(alloc)), object(alloc))
+    // low INTEGER ::= 7
+    let low = value_definition(alloc, "low", integer(alloc), number(7));
+    // flag BOOLEAN ::= TRUE
+    let flag = value_definition(alloc, "flag", boolean(alloc), truth_value(true));
+    // any TYPE-IDENTIFIER.&Type ::= ALL
+    // TYPE-IDENTIFIER.&Type
+    let any = value_definition(
+        alloc,
+        "any",
+        type_field_of_class(alloc, "TYPE-IDENTIFIER", "&Type", free(alloc)),
+        all(),
+    );
+    // ATTR ::= CLASS { &id INTEGER }
+    let attr = class_definition(
+        alloc,
+        "ATTR",
+        list_of(alloc, value_field(alloc, "&id", integer(alloc))),
+    );
+    let definitions = with(with(with(list_of(alloc, low), flag), any), colour(alloc));
+    with(with(definitions, attr), object(alloc))
 }
 
 // What the value denotes under the type.
@@ -116,15 +96,6 @@ fn is_unsure(alloc: Global, value: Mem<ASN1Value>, ty: Mem<ASN1Type>) -> Mem<boo
     Ok(matches!(denoted(alloc, value, ty)?, Denotation::Unsure))
 }
 
-// TYPE-IDENTIFIER.&Type
-fn open_type(alloc: Global) -> Mem<ASN1Type> {
-    type_field_of_class(alloc, "TYPE-IDENTIFIER", "&Type", free(alloc))
-}
-
-fn colour_type(alloc: Global) -> Mem<ASN1Type> {
-    named_with(alloc, "Colour", free(alloc))
-}
-
 // Items and named numbers come before values; a tree without the wanted shape is none.
 #[test]
 fn names(rt: HostRuntime) {
@@ -132,13 +103,14 @@ fn names(rt: HostRuntime) {
     assert_eq!(rt;
         first_wrong(&[
             gives(alloc, name_value(alloc, "low"), integer(alloc), whole(7)),
+            // INTEGER { low(1) }
             gives(
                 alloc,
                 name_value(alloc, "low"),
-                with_a_name(alloc),
+                numbered_with(list_of(alloc, named_number(alloc, "low", 1)), free(alloc)),
                 whole(1)
             ),
-            gives(alloc, name_value(alloc, "low"), colour_type(alloc), item(3)),
+            gives(alloc, name_value(alloc, "low"), named_with(alloc, "Colour", free(alloc)), item(3)),
             gives_none(alloc, name_value(alloc, "flag"), integer(alloc)),
             is_unsure(alloc, name_value(alloc, "missing"), integer(alloc)),
             gives(
@@ -148,15 +120,10 @@ fn names(rt: HostRuntime) {
                 whole(5)
             ),
             gives_none(alloc, path_value(alloc, "object", "id"), boolean(alloc)),
-            gives(alloc, name_value(alloc, "flag"), open_type(alloc), opaque()),
+            gives(alloc, name_value(alloc, "flag"), type_field_of_class(alloc, "TYPE-IDENTIFIER", "&Type", free(alloc)), opaque()),
         ]),
         None
     );
-}
-
-// OBJECT IDENTIFIER
-fn object_identifier(alloc: Global) -> Mem<ASN1Type> {
-    identifier_with(free(alloc))
 }
 
 // SEQUENCE { a INTEGER OPTIONAL }
@@ -169,10 +136,6 @@ fn a_of(alloc: Global, value: Mem<ASN1Value>) -> Mem<ASN1Value> {
     one_field_value(alloc, "a", value)
 }
 
-fn a(alloc: Global) -> Mem<Tree> {
-    fields_of_one(alloc, "a", whole(7))
-}
-
 #[test]
 fn other_values(rt: HostRuntime) {
     let alloc = rt.alloc();
@@ -181,17 +144,19 @@ fn other_values(rt: HostRuntime) {
             gives(alloc, number(3), real_with(free(alloc)), real(3, 0)),
             gives(alloc, truth_value(true), boolean(alloc), truth(true)),
             gives_none(alloc, truth_value(true), integer(alloc)),
+            // OBJECT IDENTIFIER
+            // { iso(1) 3 }
             gives(
                 alloc,
-                iso(alloc),
-                object_identifier(alloc),
+                identifier_value(alloc, "iso", 1, 3),
+                identifier_with(free(alloc)),
                 identifier(alloc, &[1, 3])
             ),
             gives(
                 alloc,
                 a_of(alloc, name_value(alloc, "low")),
                 sequence(alloc),
-                a(alloc)
+                fields_of_one(alloc, "a", whole(7))
             ),
             gives_none(
                 alloc,
@@ -207,11 +172,6 @@ fn other_values(rt: HostRuntime) {
         ]),
         None
     );
-}
-
-// { iso(1) 3 }
-fn iso(alloc: Global) -> Mem<ASN1Value> {
-    identifier_value(alloc, "iso", 1, 3)
 }
 
 // Whether the value stands for ALL under the type.

@@ -8,7 +8,7 @@ use crate::judging::judged;
 use crate::pairs::{both, list_of, with};
 use crate::rows::first_wrong;
 use crate::trees::{fields_of_one, fields_of_two, truth, whole};
-use crate::types::{boolean_with, free, integer_with, named_with, sequence_with};
+use crate::types::{boolean, free, integer_with, named_with, number_in, sequence_with};
 use crate::written::{number, one_field_value};
 use asn_denotes::{Denotation, denotes};
 use asn_heads::{Kind, Place, Scope, TypeForm, ValueForm, head, kind_of};
@@ -61,7 +61,7 @@ fn members(
     second: Option<AsnTag>,
 ) -> Mem<List<SequenceOrSetMember>> {
     let a = member(alloc, "a", digit(alloc), false, first);
-    let b = member(alloc, "b", boolean_with(free(alloc)), true, second);
+    let b = member(alloc, "b", boolean(alloc), true, second);
     with(list_of(alloc, a), b)
 }
 
@@ -84,21 +84,12 @@ fn defined(alloc: Global, ty: Mem<ASN1Type>) -> Mem<List<ToplevelDefinition>> {
     list_of(alloc, type_definition(alloc, "A", ty))
 }
 
-// A
-fn a_type(alloc: Global) -> Mem<ASN1Type> {
-    named_with(alloc, "A", free(alloc))
-}
-
 fn a(alloc: Global, number: i128) -> Mem<Tree> {
     fields_of_one(alloc, "a", whole(number))
 }
 
 fn a_and_b(alloc: Global) -> Mem<Tree> {
     fields_of_two(alloc, "a", whole(1), "b", truth(true))
-}
-
-fn b_and_a(alloc: Global) -> Mem<Tree> {
-    fields_of_two(alloc, "b", truth(true), "a", whole(1))
 }
 
 // ---- answers
@@ -108,7 +99,7 @@ fn said(alloc: Global, steps: usize, tree: Mem<Tree>) -> Mem<Answer> {
         alloc,
         defined(alloc, plain(alloc)),
         steps,
-        a_type(alloc),
+        named_with(alloc, "A", free(alloc)),
         tree,
     )
 }
@@ -167,8 +158,15 @@ fn same_trees_judge_alike(rt: HostRuntime) {
     let alloc = rt.alloc();
     assert_eq!(rt;
         first_wrong(&[
-            are_same(a_and_b(alloc), b_and_a(alloc)),
-            one_judgement(alloc, a_and_b(alloc), b_and_a(alloc)),
+            are_same(
+                a_and_b(alloc),
+                fields_of_two(alloc, "b", truth(true), "a", whole(1))
+            ),
+            one_judgement(
+                alloc,
+                a_and_b(alloc),
+                fields_of_two(alloc, "b", truth(true), "a", whole(1))
+            ),
         ]),
         None
     );
@@ -185,7 +183,7 @@ fn is_struct(found: Option<Place<'_>>) -> bool {
 
 // Whether the head of A is found within so many steps, where A is this type.
 fn has_head(alloc: Global, ty: Mem<ASN1Type>, steps: usize) -> Mem<bool> {
-    let (definitions, name) = both(defined(alloc, ty), a_type(alloc))?;
+    let (definitions, name) = both(defined(alloc, ty), named_with(alloc, "A", free(alloc)))?;
     let place = Place {
         scope: Scope::Empty,
         ty: TypeForm::Written(&name),
@@ -212,7 +210,10 @@ fn heads_stay(rt: HostRuntime) {
 
 // Whether the tree fits A, where A is this type.
 fn shape(alloc: Global, ty: Mem<ASN1Type>, steps: usize, tree: Mem<Tree>) -> Mem<Answer> {
-    let (definitions, (name, tree)) = both(defined(alloc, ty), both(a_type(alloc), tree))?;
+    let (definitions, (name, tree)) = both(
+        defined(alloc, ty),
+        both(named_with(alloc, "A", free(alloc)), tree),
+    )?;
     let place = Place {
         scope: Scope::Empty,
         ty: TypeForm::Written(&name),
@@ -268,7 +269,7 @@ fn denoted(alloc: Global, ty: Mem<ASN1Type>, steps: usize, tree: Mem<Tree>) -> M
     let value = one_field_value(alloc, "a", number(1));
     let (definitions, (name, (value, tree))) = both(
         defined(alloc, ty),
-        both(a_type(alloc), both(value, tree)),
+        both(named_with(alloc, "A", free(alloc)), both(value, tree)),
     )?;
     let place = Place {
         scope: Scope::Empty,
@@ -350,16 +351,12 @@ fn numbers_agree(rt: HostRuntime) {
     );
 }
 
-// INTEGER (0..9)
-fn unmarked(alloc: Global) -> Mem<ASN1Type> {
-    integer_with(alone(alloc, range(0, 9)))
-}
-
 // Whether the number is left above the least exactly where it is in the set, and another below it.
 fn bound(alloc: Global, number: i128, below: i128) -> Mem<bool> {
     let is_left = leaves(alloc, digit(alloc), number)?;
-    let is_in = leaves(alloc, unmarked(alloc), number)?;
-    let is_below = leaves(alloc, unmarked(alloc), below)?;
+    // INTEGER (0..9)
+    let is_in = leaves(alloc, number_in(alloc, range(0, 9)), number)?;
+    let is_below = leaves(alloc, number_in(alloc, range(0, 9)), below)?;
     Ok(is_left == (is_in && is_below))
 }
 
@@ -381,7 +378,13 @@ fn bounds_exact(rt: HostRuntime) {
 
 // The answer for A, where A is this type.
 fn said_of(alloc: Global, ty: Mem<ASN1Type>, tree: Mem<Tree>) -> Mem<Answer> {
-    judged(alloc, defined(alloc, ty), 8, a_type(alloc), tree)
+    judged(
+        alloc,
+        defined(alloc, ty),
+        8,
+        named_with(alloc, "A", free(alloc)),
+        tree,
+    )
 }
 
 fn judged_alike(alloc: Global, tree: Mem<Tree>, other: Mem<Tree>) -> Mem<bool> {
@@ -433,7 +436,13 @@ fn linked(definition: Mem<ToplevelDefinition>) -> Mem<ToplevelDefinition> {
 // The answer for A, where A is the tagged type, linked.
 fn said_of_linked(alloc: Global, tree: Mem<Tree>) -> Mem<Answer> {
     let definition = linked(type_definition(alloc, "A", tagged(alloc)));
-    judged(alloc, list_of(alloc, definition), 8, a_type(alloc), tree)
+    judged(
+        alloc,
+        list_of(alloc, definition),
+        8,
+        named_with(alloc, "A", free(alloc)),
+        tree,
+    )
 }
 
 fn linked_alike(alloc: Global, tree: Mem<Tree>, other: Mem<Tree>) -> Mem<bool> {

@@ -6,26 +6,19 @@ use crate::constraints::{
 };
 use crate::definitions::{type_definition, value_definition};
 use crate::pairs::{list_of, with};
+use crate::parts::named;
 use crate::rows::first_wrong;
 use crate::trees::{chosen, fields_of_one, fields_of_two, opaque, text, truth, whole};
 use crate::types::{
-    boolean_with, choice_with, enumerated_with, free, ia5_with, integer_with, item_of,
-    named_number, named_with, null, numbered_with, option, option_with, optional, required,
-    selection, sequence_with,
+    boolean, boolean_with, choice_with, enumerated_with, free, ia5_with, integer, integer_with,
+    item_of, named_number, named_with, null, number_in, numbered_with, option, option_with,
+    optional, required, selection, sequence_with,
 };
 use crate::written::{all, name_value, number, text_value, truth_value};
 use asn_memory::{List, Mem};
 use asn_shapes::{Answer, Tree};
-use asn_tree::{ASN1Type, ComponentPresence, Constraint, SubtypeElement, ToplevelDefinition};
+use asn_tree::{ASN1Type, ComponentPresence, Constraint, ToplevelDefinition};
 use std::alloc::Global;
-
-fn integer(alloc: Global) -> Mem<ASN1Type> {
-    integer_with(free(alloc))
-}
-
-fn name(alloc: Global, name: &str) -> Mem<ASN1Type> {
-    named_with(alloc, name, free(alloc))
-}
 
 // The name with (low..high) behind it.
 fn narrowed(alloc: Global, name: &str, low: i128, high: i128) -> Mem<ASN1Type> {
@@ -34,48 +27,24 @@ fn narrowed(alloc: Global, name: &str, low: i128, high: i128) -> Mem<ASN1Type> {
 
 // ---- types
 
-// Digit ::= INTEGER (0..9)
-fn digit(alloc: Global) -> Mem<ToplevelDefinition> {
-    type_definition(alloc, "Digit", integer_with(alone(alloc, range(0, 9))))
-}
-
-// Upper ::= Digit (5..20)
-fn upper(alloc: Global) -> Mem<ToplevelDefinition> {
-    type_definition(alloc, "Upper", narrowed(alloc, "Digit", 5, 20))
-}
-
-// Loop ::= Loop
-fn looping(alloc: Global) -> Mem<ToplevelDefinition> {
-    type_definition(alloc, "Loop", name(alloc, "Loop"))
-}
-
-// Twice ::= BOOLEAN, and then Twice ::= NULL
-fn twice(alloc: Global) -> Mem<ToplevelDefinition> {
-    type_definition(alloc, "Twice", boolean_with(free(alloc)))
-}
-
-fn twice_again(alloc: Global) -> Mem<ToplevelDefinition> {
-    type_definition(alloc, "Twice", null())
-}
-
-// seven INTEGER ::= 7
-fn seven(alloc: Global) -> Mem<ToplevelDefinition> {
-    value_definition(alloc, "seven", integer(alloc), number(7))
-}
-
 fn types(alloc: Global) -> Mem<List<ToplevelDefinition>> {
-    let first = with(list_of(alloc, digit(alloc)), upper(alloc));
-    let second = with(with(first, looping(alloc)), twice(alloc));
-    with(with(second, twice_again(alloc)), seven(alloc))
+    // Digit ::= INTEGER (0..9)
+    let digit = type_definition(alloc, "Digit", number_in(alloc, range(0, 9)));
+    // Upper ::= Digit (5..20)
+    let upper = type_definition(alloc, "Upper", narrowed(alloc, "Digit", 5, 20));
+    // Loop ::= Loop
+    let looping = type_definition(alloc, "Loop", named(alloc, "Loop"));
+    // Twice ::= BOOLEAN, and then Twice ::= NULL
+    let twice = type_definition(alloc, "Twice", boolean(alloc));
+    let twice_again = type_definition(alloc, "Twice", null());
+    // seven INTEGER ::= 7
+    let seven = value_definition(alloc, "seven", integer(alloc), number(7));
+    let definitions = with(with(with(list_of(alloc, digit), upper), looping), twice);
+    with(with(definitions, twice_again), seven)
 }
 
 fn says(alloc: Global, ty: Mem<ASN1Type>, tree: Mem<Tree>, answer: Answer) -> Mem<bool> {
     crate::judging::says(alloc, types(alloc), ty, tree, answer)
-}
-
-// Digit (MIN<..MAX)
-fn digit_without_least(alloc: Global) -> Mem<ASN1Type> {
-    named_with(alloc, "Digit", alone(alloc, whole_range(true, false)))
 }
 
 #[test]
@@ -83,14 +52,15 @@ fn constraints_on_a_type_and_on_its_place(rt: HostRuntime) {
     let alloc = rt.alloc();
     assert_eq!(rt;
         first_wrong(&[
-            says(alloc, name(alloc, "Upper"), whole(7), Answer::Yes),
-            says(alloc, name(alloc, "Upper"), whole(3), Answer::No),
-            says(alloc, name(alloc, "Upper"), whole(15), Answer::No),
+            says(alloc, named(alloc, "Upper"), whole(7), Answer::Yes),
+            says(alloc, named(alloc, "Upper"), whole(3), Answer::No),
+            says(alloc, named(alloc, "Upper"), whole(15), Answer::No),
             says(alloc, narrowed(alloc, "Upper", 0, 6), whole(6), Answer::Yes),
             says(alloc, narrowed(alloc, "Upper", 0, 6), whole(7), Answer::No),
             says(alloc, narrowed(alloc, "Upper", 0, 6), whole(4), Answer::No),
-            says(alloc, digit_without_least(alloc), whole(0), Answer::No),
-            says(alloc, digit_without_least(alloc), whole(1), Answer::Yes),
+            // Digit (MIN<..MAX)
+            says(alloc, named_with(alloc, "Digit", alone(alloc, whole_range(true, false))), whole(0), Answer::No),
+            says(alloc, named_with(alloc, "Digit", alone(alloc, whole_range(true, false))), whole(1), Answer::Yes),
         ]),
         None
     );
@@ -98,8 +68,8 @@ fn constraints_on_a_type_and_on_its_place(rt: HostRuntime) {
 
 // SEQUENCE { a Missing, b BOOLEAN }
 fn with_a_missing_member(alloc: Global) -> Mem<ASN1Type> {
-    let members = list_of(alloc, required(alloc, "a", name(alloc, "Missing")));
-    let members = with(members, required(alloc, "b", boolean_with(free(alloc))));
+    let members = list_of(alloc, required(alloc, "a", named(alloc, "Missing")));
+    let members = with(members, required(alloc, "b", boolean(alloc)));
     sequence_with(alloc, members, free(alloc))
 }
 
@@ -113,9 +83,9 @@ fn names_that_lead_nowhere(rt: HostRuntime) {
     let alloc = rt.alloc();
     assert_eq!(rt;
         first_wrong(&[
-            says(alloc, name(alloc, "Missing"), whole(1), Answer::Unknown),
-            says(alloc, name(alloc, "seven"), whole(7), Answer::Unknown),
-            says(alloc, name(alloc, "Loop"), whole(1), Answer::Unknown),
+            says(alloc, named(alloc, "Missing"), whole(1), Answer::Unknown),
+            says(alloc, named(alloc, "seven"), whole(7), Answer::Unknown),
+            says(alloc, named(alloc, "Loop"), whole(1), Answer::Unknown),
             says(
                 alloc,
                 with_a_missing_member(alloc),
@@ -134,33 +104,23 @@ fn names_that_lead_nowhere(rt: HostRuntime) {
                 whole(7),
                 Answer::Unknown
             ),
-            says(alloc, name(alloc, "Twice"), truth(true), Answer::No),
-            says(alloc, name(alloc, "Twice"), Ok(Tree::Null), Answer::Yes),
+            says(alloc, named(alloc, "Twice"), truth(true), Answer::No),
+            says(alloc, named(alloc, "Twice"), Ok(Tree::Null), Answer::Yes),
         ]),
         None
     );
 }
 
-// INTEGER (element)
-fn number_in(alloc: Global, element: Mem<SubtypeElement>) -> Mem<ASN1Type> {
-    integer_with(alone(alloc, element))
-}
-
 // INTEGER (ALL EXCEPT Digit)
 fn no_digit(alloc: Global) -> Mem<ASN1Type> {
-    let digit = one(included(name(alloc, "Digit")));
+    let digit = one(included(named(alloc, "Digit")));
     integer_with(in_set(alloc, except(alloc, single(all()), digit)))
 }
 
 // INTEGER (Digit)(MIN<..MAX)
 fn digit_within(alloc: Global) -> Mem<ASN1Type> {
-    let digits = alone(alloc, included(name(alloc, "Digit")));
+    let digits = alone(alloc, included(named(alloc, "Digit")));
     integer_with(then(digits, whole_range(true, false)))
-}
-
-// BOOLEAN (Digit)
-fn truth_in_digit(alloc: Global) -> Mem<ASN1Type> {
-    boolean_with(alone(alloc, included(name(alloc, "Digit"))))
 }
 
 #[test]
@@ -170,73 +130,39 @@ fn contained_subtypes(rt: HostRuntime) {
         first_wrong(&[
             says(
                 alloc,
-                number_in(alloc, included(name(alloc, "Digit"))),
+                number_in(alloc, included(named(alloc, "Digit"))),
                 whole(9),
                 Answer::Yes
             ),
             says(
                 alloc,
-                number_in(alloc, included(name(alloc, "Digit"))),
+                number_in(alloc, included(named(alloc, "Digit"))),
                 whole(10),
                 Answer::No
             ),
             says(
                 alloc,
-                number_in(alloc, typed(name(alloc, "Upper"))),
+                number_in(alloc, typed(named(alloc, "Upper"))),
                 whole(4),
                 Answer::No
             ),
             says(
                 alloc,
-                number_in(alloc, included(name(alloc, "X"))),
+                number_in(alloc, included(named(alloc, "X"))),
                 whole(4),
                 Answer::Unknown
             ),
             says(alloc, no_digit(alloc), whole(10), Answer::Yes),
             says(alloc, no_digit(alloc), whole(9), Answer::No),
             says(alloc, digit_within(alloc), whole(0), Answer::No),
-            says(alloc, truth_in_digit(alloc), truth(true), Answer::No),
+            // BOOLEAN (Digit)
+            says(alloc, boolean_with(alone(alloc, included(named(alloc, "Digit")))), truth(true), Answer::No),
         ]),
         None
     );
 }
 
 // ---- values
-
-// high INTEGER ::= 7
-fn high(alloc: Global) -> Mem<ToplevelDefinition> {
-    value_definition(alloc, "high", integer(alloc), number(7))
-}
-
-// next INTEGER ::= high
-fn next(alloc: Global) -> Mem<ToplevelDefinition> {
-    value_definition(alloc, "next", integer(alloc), name_value(alloc, "high"))
-}
-
-// flag BOOLEAN ::= TRUE
-fn flag(alloc: Global) -> Mem<ToplevelDefinition> {
-    value_definition(alloc, "flag", boolean_with(free(alloc)), truth_value(true))
-}
-
-// letters IA5String ::= "abc"
-fn letters(alloc: Global) -> Mem<ToplevelDefinition> {
-    value_definition(
-        alloc,
-        "letters",
-        ia5_with(free(alloc)),
-        text_value(alloc, "abc"),
-    )
-}
-
-// red Colour ::= blue
-fn red(alloc: Global) -> Mem<ToplevelDefinition> {
-    value_definition(
-        alloc,
-        "red",
-        name(alloc, "Colour"),
-        name_value(alloc, "blue"),
-    )
-}
 
 // Colour ::= ENUMERATED { red(0), blue(1) }
 fn colour(alloc: Global) -> Mem<ToplevelDefinition> {
@@ -248,9 +174,28 @@ fn colour(alloc: Global) -> Mem<ToplevelDefinition> {
 }
 
 fn values(alloc: Global) -> Mem<List<ToplevelDefinition>> {
-    let first = with(list_of(alloc, high(alloc)), next(alloc));
-    let second = with(with(first, flag(alloc)), letters(alloc));
-    with(with(second, red(alloc)), colour(alloc))
+    // high INTEGER ::= 7
+    let high = value_definition(alloc, "high", integer(alloc), number(7));
+    // next INTEGER ::= high
+    let next = value_definition(alloc, "next", integer(alloc), name_value(alloc, "high"));
+    // flag BOOLEAN ::= TRUE
+    let flag = value_definition(alloc, "flag", boolean(alloc), truth_value(true));
+    // letters IA5String ::= "abc"
+    let letters = value_definition(
+        alloc,
+        "letters",
+        ia5_with(free(alloc)),
+        text_value(alloc, "abc"),
+    );
+    // red Colour ::= blue
+    let red = value_definition(
+        alloc,
+        "red",
+        named(alloc, "Colour"),
+        name_value(alloc, "blue"),
+    );
+    let definitions = with(with(with(list_of(alloc, high), next), flag), letters);
+    with(with(definitions, red), colour(alloc))
 }
 
 fn says_of_values(alloc: Global, ty: Mem<ASN1Type>, tree: Mem<Tree>, answer: Answer) -> Mem<bool> {
@@ -292,15 +237,6 @@ fn own_number(alloc: Global) -> Mem<ASN1Type> {
     numbered_with(numbers, alone(alloc, ends))
 }
 
-// Colour (red): the item stands, and not the value
-fn red_item(alloc: Global) -> Mem<ASN1Type> {
-    named_with(
-        alloc,
-        "Colour",
-        alone(alloc, single(name_value(alloc, "red"))),
-    )
-}
-
 // IA5String (SIZE (0..high))
 fn short_text(alloc: Global) -> Mem<ASN1Type> {
     let sizes = one(between(number(0), name_value(alloc, "high")));
@@ -322,8 +258,9 @@ fn items_before_values(rt: HostRuntime) {
         first_wrong(&[
             says_of_values(alloc, own_number(alloc), whole(3), Answer::Yes),
             says_of_values(alloc, own_number(alloc), whole(5), Answer::No),
-            says_of_values(alloc, red_item(alloc), Ok(Tree::Item(0)), Answer::Yes),
-            says_of_values(alloc, red_item(alloc), Ok(Tree::Item(1)), Answer::No),
+            // Colour (red): the item stands, and not the value
+            says_of_values(alloc, named_with(alloc, "Colour", alone(alloc, single(name_value(alloc, "red")))), Ok(Tree::Item(0)), Answer::Yes),
+            says_of_values(alloc, named_with(alloc, "Colour", alone(alloc, single(name_value(alloc, "red")))), Ok(Tree::Item(1)), Answer::No),
             says_of_values(
                 alloc,
                 short_text(alloc),
@@ -347,13 +284,13 @@ fn items_before_values(rt: HostRuntime) {
 
 // i INTEGER (0..7)
 fn i_option(alloc: Global) -> Mem<asn_tree::ChoiceOption> {
-    let seven = integer_with(alone(alloc, range(0, 7)));
+    let seven = number_in(alloc, range(0, 7));
     option_with(alloc, "i", seven, alone(alloc, range(2, 9)))
 }
 
 // Choice ::= CHOICE { i INTEGER (0..7), b BOOLEAN } (WITH COMPONENTS { b }); the option i has (2..9) of its own
 fn choice(alloc: Global) -> Mem<ToplevelDefinition> {
-    let b = option(alloc, "b", boolean_with(free(alloc)));
+    let b = option(alloc, "b", boolean(alloc));
     let options = with(list_of(alloc, i_option(alloc)), b);
     let only_b = listed(alloc, "b", ComponentPresence::Unspecified);
     let ty = choice_with(options, alone(alloc, full(list_of(alloc, only_b))));
@@ -363,17 +300,14 @@ fn choice(alloc: Global) -> Mem<ToplevelDefinition> {
 // Pair ::= SEQUENCE { a INTEGER, b BOOLEAN OPTIONAL }
 fn pair(alloc: Global) -> Mem<ToplevelDefinition> {
     let members = list_of(alloc, required(alloc, "a", integer(alloc)));
-    let members = with(members, optional(alloc, "b", boolean_with(free(alloc))));
+    let members = with(members, optional(alloc, "b", boolean(alloc)));
     type_definition(alloc, "Pair", sequence_with(alloc, members, free(alloc)))
 }
 
-// Pdv ::= EMBEDDED PDV
-fn pdv(alloc: Global) -> Mem<ToplevelDefinition> {
-    type_definition(alloc, "Pdv", Ok(ASN1Type::EmbeddedPdv))
-}
-
 fn parts(alloc: Global) -> Mem<List<ToplevelDefinition>> {
-    with(with(list_of(alloc, choice(alloc)), pair(alloc)), pdv(alloc))
+    // Pdv ::= EMBEDDED PDV
+    let pdv = type_definition(alloc, "Pdv", Ok(ASN1Type::EmbeddedPdv));
+    with(with(list_of(alloc, choice(alloc)), pair(alloc)), pdv)
 }
 
 fn says_of_parts(alloc: Global, ty: Mem<ASN1Type>, tree: Mem<Tree>, answer: Answer) -> Mem<bool> {
@@ -414,7 +348,7 @@ fn selections(rt: HostRuntime) {
             ),
             says_of_parts(
                 alloc,
-                name(alloc, "Choice"),
+                named(alloc, "Choice"),
                 chosen(alloc, "i", whole(5)),
                 Answer::No
             ),
@@ -428,43 +362,27 @@ fn without_b(alloc: Global) -> Mem<List<Constraint>> {
     alone(alloc, partial(list_of(alloc, b)))
 }
 
-// Pair (WITH COMPONENTS { ..., b ABSENT })
-fn pair_without_b(alloc: Global) -> Mem<ASN1Type> {
-    named_with(alloc, "Pair", without_b(alloc))
-}
-
-// Pdv (WITH COMPONENTS { ..., b ABSENT }): constraints on EMBEDDED PDV count as true
-fn pdv_without_b(alloc: Global) -> Mem<ASN1Type> {
-    named_with(alloc, "Pdv", without_b(alloc))
-}
-
-// Missing (5)
-fn missing_five(alloc: Global) -> Mem<ASN1Type> {
-    named_with(alloc, "Missing", alone(alloc, only(5)))
-}
-
 #[test]
 fn parts_of_named_types(rt: HostRuntime) {
     let alloc = rt.alloc();
     assert_eq!(rt;
         first_wrong(&[
-            says_of_parts(alloc, pair_without_b(alloc), a(alloc), Answer::Yes),
+            // Pair (WITH COMPONENTS { ..., b ABSENT })
+            says_of_parts(alloc, named_with(alloc, "Pair", without_b(alloc)), fields_of_one(alloc, "a", whole(1)), Answer::Yes),
             says_of_parts(
                 alloc,
-                pair_without_b(alloc),
+                named_with(alloc, "Pair", without_b(alloc)),
                 a_and_b(alloc, truth(true)),
                 Answer::No
             ),
-            says_of_parts(alloc, pdv_without_b(alloc), opaque(), Answer::Yes),
-            says_of_parts(alloc, pdv_without_b(alloc), a(alloc), Answer::No),
-            says_of_parts(alloc, missing_five(alloc), whole(6), Answer::Unknown),
+            // Pdv (WITH COMPONENTS { ..., b ABSENT }): constraints on EMBEDDED PDV count as true
+            says_of_parts(alloc, named_with(alloc, "Pdv", without_b(alloc)), opaque(), Answer::Yes),
+            says_of_parts(alloc, named_with(alloc, "Pdv", without_b(alloc)), fields_of_one(alloc, "a", whole(1)), Answer::No),
+            // Missing (5)
+            says_of_parts(alloc, named_with(alloc, "Missing", alone(alloc, only(5))), whole(6), Answer::Unknown),
         ]),
         None
     );
-}
-
-fn a(alloc: Global) -> Mem<Tree> {
-    fields_of_one(alloc, "a", whole(1))
 }
 
 // ---- steps

@@ -7,7 +7,7 @@ use crate::constraints::{
 use crate::pairs::{boxed, list_of};
 use crate::rows::first_wrong;
 use crate::types::{
-    boolean_with, free, integer_with, named_number, numbered_with, type_field_of_class,
+    boolean, free, integer_with, named_number, number_in, numbered_with, type_field_of_class,
 };
 use asn_heads::{Place, Scope, TypeForm};
 use asn_memory::{List, Mem};
@@ -46,31 +46,20 @@ fn lacks(alloc: Global, ty: Mem<ASN1Type>, number: i128) -> Mem<bool> {
     Ok(leaves(alloc, ty, number)? == Some(false))
 }
 
-fn without_least() -> Mem<asn_tree::SubtypeElement> {
-    whole_range(true, false)
-}
-
-fn without_greatest() -> Mem<asn_tree::SubtypeElement> {
-    whole_range(false, true)
-}
-
-// INTEGER (MIN<..<MAX)
-fn marked(alloc: Global) -> Mem<ASN1Type> {
-    integer_with(alone(alloc, whole_range(true, true)))
-}
-
-fn all_of_128_bits(alloc: Global) -> Mem<List<Constraint>> {
-    alone(alloc, range(i128::MIN, i128::MAX))
-}
-
 // INTEGER with all numbers of 128 bits, and behind it (MIN<..MAX)
 fn above_least(alloc: Global) -> Mem<ASN1Type> {
-    integer_with(then(all_of_128_bits(alloc), without_least()))
+    integer_with(then(
+        alone(alloc, range(i128::MIN, i128::MAX)),
+        whole_range(true, false),
+    ))
 }
 
 // the same with (MIN..<MAX)
 fn below_greatest(alloc: Global) -> Mem<ASN1Type> {
-    integer_with(then(all_of_128_bits(alloc), without_greatest()))
+    integer_with(then(
+        alone(alloc, range(i128::MIN, i128::MAX)),
+        whole_range(false, true),
+    ))
 }
 
 // INTEGER has numbers beyond those of 128 bits; a type with these alone has none.
@@ -79,8 +68,9 @@ fn marks_at_the_ends_of_128_bits(rt: HostRuntime) {
     let alloc = rt.alloc();
     assert_eq!(rt;
         first_wrong(&[
-            has(alloc, marked(alloc), i128::MIN),
-            has(alloc, marked(alloc), i128::MAX),
+            // INTEGER (MIN<..<MAX)
+            has(alloc, number_in(alloc, whole_range(true, true)), i128::MIN),
+            has(alloc, number_in(alloc, whole_range(true, true)), i128::MAX),
             lacks(alloc, above_least(alloc), i128::MIN),
             has(alloc, above_least(alloc), i128::MIN + 1),
             has(alloc, above_least(alloc), i128::MAX),
@@ -92,27 +82,16 @@ fn marks_at_the_ends_of_128_bits(rt: HostRuntime) {
     );
 }
 
-// INTEGER (least<..<greatest) of 128 bits
-fn open(alloc: Global) -> Mem<ASN1Type> {
-    integer_with(alone(alloc, open_range(i128::MIN, i128::MAX)))
-}
-
-// INTEGER (greatest)(MIN<..MAX)
-fn greatest_alone(alloc: Global) -> Mem<ASN1Type> {
-    integer_with(then(alone(alloc, only(i128::MAX)), without_least()))
-}
-
 // INTEGER (least | greatest)(MIN<..MAX)(MIN..<MAX): of two numbers none is left
 fn both_ends(alloc: Global) -> Mem<List<Constraint>> {
     in_set(alloc, or(alloc, only(i128::MIN), one(only(i128::MAX))))
 }
 
-fn greatest_of_two(alloc: Global) -> Mem<ASN1Type> {
-    integer_with(then(both_ends(alloc), without_least()))
-}
-
 fn none_of_two(alloc: Global) -> Mem<ASN1Type> {
-    integer_with(then(then(both_ends(alloc), without_least()), without_greatest()))
+    integer_with(then(
+        then(both_ends(alloc), whole_range(true, false)),
+        whole_range(false, true),
+    ))
 }
 
 #[test]
@@ -120,26 +99,18 @@ fn single_numbers_at_the_ends_of_128_bits(rt: HostRuntime) {
     let alloc = rt.alloc();
     assert_eq!(rt;
         first_wrong(&[
-            lacks(alloc, open(alloc), i128::MIN),
-            has(alloc, open(alloc), i128::MIN + 1),
-            lacks(alloc, open(alloc), i128::MAX),
-            lacks(alloc, greatest_alone(alloc), i128::MAX),
-            lacks(alloc, greatest_of_two(alloc), i128::MIN),
-            has(alloc, greatest_of_two(alloc), i128::MAX),
+            // INTEGER (least<..<greatest) of 128 bits
+            lacks(alloc, number_in(alloc, open_range(i128::MIN, i128::MAX)), i128::MIN),
+            has(alloc, number_in(alloc, open_range(i128::MIN, i128::MAX)), i128::MIN + 1),
+            lacks(alloc, number_in(alloc, open_range(i128::MIN, i128::MAX)), i128::MAX),
+            // INTEGER (greatest)(MIN<..MAX)
+            lacks(alloc, integer_with(then(alone(alloc, only(i128::MAX)), whole_range(true, false))), i128::MAX),
+            lacks(alloc, integer_with(then(both_ends(alloc), whole_range(true, false))), i128::MIN),
+            has(alloc, integer_with(then(both_ends(alloc), whole_range(true, false))), i128::MAX),
             lacks(alloc, none_of_two(alloc), i128::MAX),
         ]),
         None
     );
-}
-
-// BOOLEAN
-fn boolean(alloc: Global) -> Mem<ASN1Type> {
-    boolean_with(free(alloc))
-}
-
-// TYPE-IDENTIFIER.&Type
-fn open_type(alloc: Global) -> Mem<ASN1Type> {
-    type_field_of_class(alloc, "TYPE-IDENTIFIER", "&Type", free(alloc))
 }
 
 // INTEGER (1..9 ^ 5..20 EXCEPT 7)
@@ -154,7 +125,8 @@ fn numbers_of_types(rt: HostRuntime) {
     assert_eq!(rt;
         first_wrong(&[
             lacks(alloc, boolean(alloc), 0),
-            has(alloc, open_type(alloc), 0),
+            // TYPE-IDENTIFIER.&Type
+            has(alloc, type_field_of_class(alloc, "TYPE-IDENTIFIER", "&Type", free(alloc)), 0),
             has(alloc, joined(alloc), 5),
             lacks(alloc, joined(alloc), 7),
             lacks(alloc, joined(alloc), 10),
@@ -275,7 +247,10 @@ fn place_and_type(alloc: Global) -> Mem<bool> {
 
 // the numbers from 5 on, narrowed by (MIN<..MAX)
 fn narrowed_once(alloc: Global, number: i128) -> Mem<Option<bool>> {
-    let (ty, constraints) = crate::pairs::both(digit(alloc), alone(alloc, without_least()))?;
+    let (ty, constraints) = crate::pairs::both(
+        digit(alloc),
+        alone(alloc, whole_range(true, false)),
+    )?;
     let head = Place {
         scope: Scope::Empty,
         ty: TypeForm::Written(&ty),

@@ -7,12 +7,12 @@ use crate::definitions::{
     type_item, type_place, value_definition, value_field, value_item, value_place, word,
 };
 use crate::pairs::{list_of, with};
-use crate::parts::{components_of, extended, member, sequence, two_components};
+use crate::parts::{components_of, extended, member, named, sequence, two_components};
 use crate::rows::first_wrong;
 use crate::trees::{fields_of_three, fields_of_two, identifier, truth, whole};
 use crate::types::{
-    boolean_with, field_of_object, free, integer_with, named_with, type_field_of_class,
-    value_field_of_class,
+    boolean, boolean_with, field_of_object, free, integer, named_with, number_in,
+    type_field_of_class, value_field_of_class,
 };
 use crate::written::{all, name_value, number, path_value};
 use asn_memory::{List, Mem};
@@ -23,43 +23,20 @@ use asn_tree::{
 };
 use std::alloc::Global;
 
-fn integer(alloc: Global) -> Mem<ASN1Type> {
-    integer_with(free(alloc))
-}
-
-fn boolean(alloc: Global) -> Mem<ASN1Type> {
-    boolean_with(free(alloc))
-}
-
-fn name(alloc: Global, name: &str) -> Mem<ASN1Type> {
-    named_with(alloc, name, free(alloc))
-}
-
-// INTEGER (0..9)
-fn digit(alloc: Global) -> Mem<ASN1Type> {
-    integer_with(alone(alloc, range(0, 9)))
-}
-
 // ---- classes and objects
 
 fn fields(alloc: Global) -> Mem<List<InformationObjectClassField>> {
-    let first = list_of(alloc, value_field(alloc, "&id", digit(alloc)));
+    // INTEGER (0..9)
+    let first = list_of(
+        alloc,
+        value_field(alloc, "&id", number_in(alloc, range(0, 9))),
+    );
     with(first, type_field(alloc, "&Type"))
-}
-
-// ATTR ::= CLASS { &id INTEGER (0..9), &Type }
-fn attr(alloc: Global) -> Mem<ToplevelDefinition> {
-    class_definition(alloc, "ATTR", fields(alloc))
 }
 
 fn given(alloc: Global) -> Mem<List<InformationObjectField>> {
     let first = list_of(alloc, given_value(alloc, "&id", number(5)));
     with(first, given_type(alloc, "&Type", boolean(alloc)))
-}
-
-// object ATTR ::= { &id 5, &Type BOOLEAN }
-fn object(alloc: Global) -> Mem<ToplevelDefinition> {
-    object_definition(alloc, "object", "ATTR", by_name(given(alloc)))
 }
 
 // any ATTR.&Type ::= ALL
@@ -69,31 +46,15 @@ fn any(alloc: Global) -> Mem<ToplevelDefinition> {
 }
 
 fn definitions(alloc: Global) -> Mem<List<ToplevelDefinition>> {
-    with(with(list_of(alloc, attr(alloc)), object(alloc)), any(alloc))
+    // ATTR ::= CLASS { &id INTEGER (0..9), &Type }
+    let attr = class_definition(alloc, "ATTR", fields(alloc));
+    // object ATTR ::= { &id 5, &Type BOOLEAN }
+    let object = object_definition(alloc, "object", "ATTR", by_name(given(alloc)));
+    with(with(list_of(alloc, attr), object), any(alloc))
 }
 
 fn says(alloc: Global, ty: Mem<ASN1Type>, tree: Mem<Tree>, answer: Answer) -> Mem<bool> {
     crate::judging::says(alloc, definitions(alloc), ty, tree, answer)
-}
-
-// ATTR.&id (3..20)
-fn id(alloc: Global) -> Mem<ASN1Type> {
-    value_field_of_class(alloc, "ATTR", "&id", alone(alloc, range(3, 20)))
-}
-
-// ATTR.&other
-fn other(alloc: Global) -> Mem<ASN1Type> {
-    value_field_of_class(alloc, "ATTR", "&other", free(alloc))
-}
-
-// ATTR.&Type (3..20): an open type, on which every constraint counts as true
-fn open(alloc: Global) -> Mem<ASN1Type> {
-    type_field_of_class(alloc, "ATTR", "&Type", alone(alloc, range(3, 20)))
-}
-
-// TYPE-IDENTIFIER.&id
-fn built_in(alloc: Global) -> Mem<ASN1Type> {
-    value_field_of_class(alloc, "TYPE-IDENTIFIER", "&id", free(alloc))
 }
 
 #[test]
@@ -101,19 +62,23 @@ fn fields_of_classes(rt: HostRuntime) {
     let alloc = rt.alloc();
     assert_eq!(rt;
         first_wrong(&[
-            says(alloc, id(alloc), whole(5), Answer::Yes),
-            says(alloc, id(alloc), whole(2), Answer::No),
-            says(alloc, id(alloc), whole(10), Answer::No),
-            says(alloc, other(alloc), whole(5), Answer::Unknown),
-            says(alloc, open(alloc), whole(50), Answer::Yes),
-            says(alloc, open(alloc), truth(true), Answer::Yes),
+            // ATTR.&id (3..20)
+            says(alloc, value_field_of_class(alloc, "ATTR", "&id", alone(alloc, range(3, 20))), whole(5), Answer::Yes),
+            says(alloc, value_field_of_class(alloc, "ATTR", "&id", alone(alloc, range(3, 20))), whole(2), Answer::No),
+            says(alloc, value_field_of_class(alloc, "ATTR", "&id", alone(alloc, range(3, 20))), whole(10), Answer::No),
+            // ATTR.&other
+            says(alloc, value_field_of_class(alloc, "ATTR", "&other", free(alloc)), whole(5), Answer::Unknown),
+            // ATTR.&Type (3..20): an open type, on which every constraint counts as true
+            says(alloc, type_field_of_class(alloc, "ATTR", "&Type", alone(alloc, range(3, 20))), whole(50), Answer::Yes),
+            says(alloc, type_field_of_class(alloc, "ATTR", "&Type", alone(alloc, range(3, 20))), truth(true), Answer::Yes),
+            // TYPE-IDENTIFIER.&id
             says(
                 alloc,
-                built_in(alloc),
+                value_field_of_class(alloc, "TYPE-IDENTIFIER", "&id", free(alloc)),
                 identifier(alloc, &[1, 3]),
                 Answer::Yes
             ),
-            says(alloc, built_in(alloc), whole(5), Answer::No),
+            says(alloc, value_field_of_class(alloc, "TYPE-IDENTIFIER", "&id", free(alloc)), whole(5), Answer::No),
         ]),
         None
     );
@@ -121,18 +86,13 @@ fn fields_of_classes(rt: HostRuntime) {
 
 // INTEGER (object.&id)
 fn at_id(alloc: Global, object: &str) -> Mem<ASN1Type> {
-    integer_with(alone(alloc, single(path_value(alloc, object, "id"))))
-}
-
-// BOOLEAN (object.&id): the field's value is no truth value
-fn truth_at_id(alloc: Global) -> Mem<ASN1Type> {
-    boolean_with(alone(alloc, single(path_value(alloc, "object", "id"))))
+    number_in(alloc, single(path_value(alloc, object, "id")))
 }
 
 // INTEGER (any): the name stands for ALL
 fn at_any(alloc: Global) -> Mem<ASN1Type> {
     let any = single(name_value(alloc, "any"));
-    integer_with(alone(alloc, any))
+    number_in(alloc, any)
 }
 
 // object.&Type
@@ -148,7 +108,8 @@ fn fields_of_objects(rt: HostRuntime) {
             says(alloc, at_id(alloc, "object"), whole(5), Answer::Yes),
             says(alloc, at_id(alloc, "object"), whole(6), Answer::No),
             says(alloc, at_id(alloc, "missing"), whole(5), Answer::Unknown),
-            says(alloc, truth_at_id(alloc), truth(true), Answer::No),
+            // BOOLEAN (object.&id): the field's value is no truth value
+            says(alloc, boolean_with(alone(alloc, single(path_value(alloc, "object", "id")))), truth(true), Answer::No),
             says(alloc, at_any(alloc), whole(6), Answer::Yes),
             says(alloc, type_of(alloc, "object"), truth(true), Answer::Yes),
             says(alloc, type_of(alloc, "object"), whole(1), Answer::No),
@@ -167,19 +128,9 @@ fn syntax(alloc: Global) -> Mem<List<SyntaxExpression>> {
     with(with(id, literal(alloc, "TYPE")), type_place(alloc, "&Type"))
 }
 
-// OWN ::= CLASS { &id INTEGER (0..9), &Type } WITH SYNTAX { ID &id TYPE &Type }
-fn own(alloc: Global) -> Mem<ToplevelDefinition> {
-    class_with_syntax(alloc, "OWN", fields(alloc), syntax(alloc))
-}
-
 fn items(alloc: Global) -> Mem<List<SyntaxApplication>> {
     let id = with(list_of(alloc, word(alloc, "ID")), value_item(number(5)));
     with(with(id, word(alloc, "TYPE")), type_item(boolean(alloc)))
-}
-
-// whole OWN ::= { ID 5 TYPE BOOLEAN }
-fn whole_object(alloc: Global) -> Mem<ToplevelDefinition> {
-    object_definition(alloc, "whole", "OWN", by_syntax(items(alloc)))
 }
 
 // half OWN ::= { ID }, which does not follow the syntax
@@ -189,10 +140,11 @@ fn half_object(alloc: Global) -> Mem<ToplevelDefinition> {
 }
 
 fn of_syntax(alloc: Global) -> Mem<List<ToplevelDefinition>> {
-    with(
-        with(list_of(alloc, own(alloc)), whole_object(alloc)),
-        half_object(alloc),
-    )
+    // OWN ::= CLASS { &id INTEGER (0..9), &Type } WITH SYNTAX { ID &id TYPE &Type }
+    let own = class_with_syntax(alloc, "OWN", fields(alloc), syntax(alloc));
+    // whole OWN ::= { ID 5 TYPE BOOLEAN }
+    let whole_object = object_definition(alloc, "whole", "OWN", by_syntax(items(alloc)));
+    with(with(list_of(alloc, own), whole_object), half_object(alloc))
 }
 
 fn says_of_syntax(alloc: Global, ty: Mem<ASN1Type>, tree: Mem<Tree>, answer: Answer) -> Mem<bool> {
@@ -217,7 +169,7 @@ fn objects_in_their_own_syntax(rt: HostRuntime) {
 // ---- COMPONENTS OF
 
 fn a_and_b(alloc: Global) -> Mem<List<SequenceComponent>> {
-    let first = member(alloc, "a", digit(alloc)?, false)?;
+    let first = member(alloc, "a", number_in(alloc, range(0, 9))?, false)?;
     let second = member(alloc, "b", crate::parts::boolean(alloc), true)?;
     two_components(alloc, first, second)
 }
@@ -234,23 +186,17 @@ fn put_in(alloc: Global, name: &str) -> Mem<ASN1Type> {
     sequence(alloc, components_of(alloc, name)?, last)
 }
 
-// F ::= SEQUENCE { COMPONENTS OF E, c BOOLEAN }
-fn f(alloc: Global) -> Mem<ToplevelDefinition> {
-    type_definition(alloc, "F", put_in(alloc, "E"))
-}
-
-// G { X } ::= SEQUENCE { COMPONENTS OF X, c BOOLEAN }
-fn g(alloc: Global) -> Mem<ToplevelDefinition> {
-    template(
+fn structs(alloc: Global) -> Mem<List<ToplevelDefinition>> {
+    // F ::= SEQUENCE { COMPONENTS OF E, c BOOLEAN }
+    let f = type_definition(alloc, "F", put_in(alloc, "E"));
+    // G { X } ::= SEQUENCE { COMPONENTS OF X, c BOOLEAN }
+    let g = template(
         alloc,
         "G",
         list_of(alloc, type_dummy(alloc, "X")),
         put_in(alloc, "X"),
-    )
-}
-
-fn structs(alloc: Global) -> Mem<List<ToplevelDefinition>> {
-    with(with(list_of(alloc, e(alloc)), f(alloc)), g(alloc))
+    );
+    with(with(list_of(alloc, e(alloc)), f), g)
 }
 
 fn says_of_structs(alloc: Global, ty: Mem<ASN1Type>, tree: Mem<Tree>, answer: Answer) -> Mem<bool> {
@@ -265,21 +211,12 @@ fn f_with_b(alloc: Global) -> Mem<ASN1Type> {
 
 // G { E }
 fn g_of_e(alloc: Global) -> Mem<ASN1Type> {
-    let list = arguments(alloc, list_of(alloc, type_argument(name(alloc, "E"))));
+    let list = arguments(alloc, list_of(alloc, type_argument(named(alloc, "E"))));
     named_with(alloc, "G", list)
 }
 
 fn c_and(alloc: Global, name: &str, tree: Mem<Tree>) -> Mem<Tree> {
     fields_of_two(alloc, "c", truth(true), name, tree)
-}
-
-fn a_and_e(alloc: Global) -> Mem<Tree> {
-    fields_of_two(alloc, "a", whole(1), "e", whole(2))
-}
-
-// c, a and the addition e
-fn with_an_addition(alloc: Global) -> Mem<Tree> {
-    fields_of_three(alloc, ("c", truth(true)), ("a", whole(1)), ("e", whole(2)))
 }
 
 // The root members are put in, with their constraints, and additions stay behind.
@@ -288,20 +225,21 @@ fn components_put_in(rt: HostRuntime) {
     let alloc = rt.alloc();
     assert_eq!(rt;
         first_wrong(&[
-            says_of_structs(alloc, name(alloc, "E"), a_and_e(alloc), Answer::Yes),
+            says_of_structs(alloc, named(alloc, "E"), fields_of_two(alloc, "a", whole(1), "e", whole(2)), Answer::Yes),
             says_of_structs(
                 alloc,
-                name(alloc, "F"),
+                named(alloc, "F"),
                 c_and(alloc, "a", whole(9)),
                 Answer::Yes
             ),
             says_of_structs(
                 alloc,
-                name(alloc, "F"),
+                named(alloc, "F"),
                 c_and(alloc, "a", whole(10)),
                 Answer::No
             ),
-            says_of_structs(alloc, name(alloc, "F"), with_an_addition(alloc), Answer::No),
+            // c, a and the addition e
+            says_of_structs(alloc, named(alloc, "F"), fields_of_three(alloc, ("c", truth(true)), ("a", whole(1)), ("e", whole(2))), Answer::No),
             says_of_structs(
                 alloc,
                 f_with_b(alloc),

@@ -4,7 +4,7 @@ use crate::constraints::{alone, range, single};
 use crate::pairs::both;
 use crate::rows::first_wrong;
 use crate::trees::{text, whole};
-use crate::types::{free, ia5_with, integer_with};
+use crate::types::{free, ia5_with, number_in};
 use crate::written::text_value;
 use asn_heads::{Place, Scope, TypeForm};
 use asn_judge::{accepts, holds};
@@ -16,7 +16,7 @@ use std::alloc::Global;
 
 // What is said of INTEGER (0..9) at a place with (5..20).
 fn at_a_place(alloc: Global, tree: Mem<Tree>) -> Mem<Answer> {
-    let digit = integer_with(alone(alloc, range(0, 9)));
+    let digit = number_in(alloc, range(0, 9));
     let (ty, (constraints, tree)) = both(digit, both(alone(alloc, range(5, 20)), tree))?;
     let place = Place {
         scope: Scope::Empty,
@@ -60,16 +60,12 @@ fn on_characters(alloc: Global, element: Mem<SubtypeElement>, tree: Mem<Tree>) -
     )
 }
 
-fn abc(alloc: Global) -> Mem<SubtypeElement> {
-    single(text_value(alloc, "abc"))
-}
-
 fn of_values(alloc: Global, tree: Mem<Tree>, answer: Answer) -> Mem<bool> {
-    Ok(on_values(alloc, abc(alloc), tree)? == answer)
+    Ok(on_values(alloc, single(text_value(alloc, "abc")), tree)? == answer)
 }
 
 fn of_characters(alloc: Global, tree: Mem<Tree>, answer: Answer) -> Mem<bool> {
-    Ok(on_characters(alloc, abc(alloc), tree)? == answer)
+    Ok(on_characters(alloc, single(text_value(alloc, "abc")), tree)? == answer)
 }
 
 // A single value is one text; on characters it holds of each that occurs in it.

@@ -10,64 +10,33 @@ use crate::pairs::{list_of, with};
 use crate::rows::first_wrong;
 use crate::trees::{nothing, real, text, truth, whole};
 use crate::types::{
-    boolean_with, integer_with, named_number, numbered_with, real_with, type_field_of_class,
+    boolean_with, integer_with, named_number, number_in, numbered_with, real_with,
+    type_field_of_class,
 };
 use crate::written::{all, name_value, number, text_value};
-use asn_memory::{List, Mem};
-use asn_tree::{ASN1Type, Constraint, DistinguishedValue};
+use asn_memory::Mem;
+use asn_tree::ASN1Type;
 use std::alloc::Global;
-
-// INTEGER (5)
-fn five(alloc: Global) -> Mem<ASN1Type> {
-    integer_with(alone(alloc, only(5)))
-}
-
-// INTEGER (1..9)
-fn closed(alloc: Global) -> Mem<ASN1Type> {
-    integer_with(alone(alloc, range(1, 9)))
-}
-
-// INTEGER (1<..<9)
-fn open(alloc: Global) -> Mem<ASN1Type> {
-    integer_with(alone(alloc, open_range(1, 9)))
-}
 
 #[test]
 fn numbers_and_ranges(rt: HostRuntime) {
     let alloc = rt.alloc();
     assert_eq!(rt;
         first_wrong(&[
-            yes(alloc, five(alloc), whole(5)),
-            no(alloc, five(alloc), whole(6)),
-            yes(alloc, closed(alloc), whole(9)),
-            no(alloc, closed(alloc), whole(10)),
-            no(alloc, open(alloc), whole(1)),
-            yes(alloc, open(alloc), whole(2)),
-            yes(alloc, open(alloc), whole(8)),
-            no(alloc, open(alloc), whole(9)),
+            // INTEGER (5)
+            yes(alloc, number_in(alloc, only(5)), whole(5)),
+            no(alloc, number_in(alloc, only(5)), whole(6)),
+            // INTEGER (1..9)
+            yes(alloc, number_in(alloc, range(1, 9)), whole(9)),
+            no(alloc, number_in(alloc, range(1, 9)), whole(10)),
+            // INTEGER (1<..<9)
+            no(alloc, number_in(alloc, open_range(1, 9)), whole(1)),
+            yes(alloc, number_in(alloc, open_range(1, 9)), whole(2)),
+            yes(alloc, number_in(alloc, open_range(1, 9)), whole(8)),
+            no(alloc, number_in(alloc, open_range(1, 9)), whole(9)),
         ]),
         None
     );
-}
-
-// INTEGER (MIN..9)
-fn below(alloc: Global) -> Mem<ASN1Type> {
-    integer_with(alone(alloc, up_to(9)))
-}
-
-// INTEGER (1..MAX)
-fn above(alloc: Global) -> Mem<ASN1Type> {
-    integer_with(alone(alloc, from_on(1)))
-}
-
-// INTEGER (MIN<..<MAX): INTEGER has no least and no greatest number
-fn marked(alloc: Global) -> Mem<ASN1Type> {
-    integer_with(alone(alloc, whole_range(true, true)))
-}
-
-// INTEGER (5..1)
-fn empty(alloc: Global) -> Mem<ASN1Type> {
-    integer_with(alone(alloc, range(5, 1)))
 }
 
 #[test]
@@ -75,31 +44,31 @@ fn least_and_greatest(rt: HostRuntime) {
     let alloc = rt.alloc();
     assert_eq!(rt;
         first_wrong(&[
-            yes(alloc, below(alloc), whole(-100)),
-            no(alloc, below(alloc), whole(10)),
-            yes(alloc, above(alloc), whole(100)),
-            no(alloc, above(alloc), whole(0)),
-            yes(alloc, marked(alloc), whole(-100)),
-            yes(alloc, marked(alloc), whole(i128::MIN)),
-            yes(alloc, marked(alloc), whole(i128::MAX)),
-            no(alloc, empty(alloc), whole(3)),
+            // INTEGER (MIN..9)
+            yes(alloc, number_in(alloc, up_to(9)), whole(-100)),
+            no(alloc, number_in(alloc, up_to(9)), whole(10)),
+            // INTEGER (1..MAX)
+            yes(alloc, number_in(alloc, from_on(1)), whole(100)),
+            no(alloc, number_in(alloc, from_on(1)), whole(0)),
+            // INTEGER (MIN<..<MAX): INTEGER has no least and no greatest number
+            yes(alloc, number_in(alloc, whole_range(true, true)), whole(-100)),
+            yes(alloc, number_in(alloc, whole_range(true, true)), whole(i128::MIN)),
+            yes(alloc, number_in(alloc, whole_range(true, true)), whole(i128::MAX)),
+            // INTEGER (5..1)
+            no(alloc, number_in(alloc, range(5, 1)), whole(3)),
         ]),
         None
     );
 }
 
-fn zero_to_ten(alloc: Global) -> Mem<List<Constraint>> {
-    alone(alloc, range(0, 10))
-}
-
 // INTEGER (0..10)(MIN<..MAX)
 fn without_least(alloc: Global) -> Mem<ASN1Type> {
-    integer_with(then(zero_to_ten(alloc), whole_range(true, false)))
+    integer_with(then(alone(alloc, range(0, 10)), whole_range(true, false)))
 }
 
 // INTEGER (0..10)(MIN..<MAX)
 fn without_greatest(alloc: Global) -> Mem<ASN1Type> {
-    integer_with(then(zero_to_ten(alloc), whole_range(false, true)))
+    integer_with(then(alone(alloc, range(0, 10)), whole_range(false, true)))
 }
 
 // INTEGER (0 | 5..10)(MIN<..MAX)
@@ -136,17 +105,7 @@ fn marks_beside_min_and_max(rt: HostRuntime) {
 
 // INTEGER (0..10)(5..20)
 fn in_a_row(alloc: Global) -> Mem<ASN1Type> {
-    integer_with(then(zero_to_ten(alloc), range(5, 20)))
-}
-
-// INTEGER (0..9, ...), the marker read with the range
-fn with_a_marker_of_the_range(alloc: Global) -> Mem<ASN1Type> {
-    integer_with(alone(alloc, extensible_range(0, 9)))
-}
-
-// INTEGER (0..9, ...), the marker read with the set
-fn with_a_marker(alloc: Global) -> Mem<ASN1Type> {
-    integer_with(extensible(alloc, one(range(0, 9))))
+    integer_with(then(alone(alloc, range(0, 10)), range(5, 20)))
 }
 
 #[test]
@@ -157,40 +116,38 @@ fn constraints_in_a_row_and_markers(rt: HostRuntime) {
             yes(alloc, in_a_row(alloc), whole(7)),
             no(alloc, in_a_row(alloc), whole(3)),
             no(alloc, in_a_row(alloc), whole(15)),
-            yes(alloc, with_a_marker(alloc), whole(9)),
-            no(alloc, with_a_marker(alloc), whole(10)),
-            yes(alloc, with_a_marker_of_the_range(alloc), whole(9)),
-            no(alloc, with_a_marker_of_the_range(alloc), whole(10)),
+            // INTEGER (0..9, ...), the marker read with the set
+            yes(alloc, integer_with(extensible(alloc, one(range(0, 9)))), whole(9)),
+            no(alloc, integer_with(extensible(alloc, one(range(0, 9)))), whole(10)),
+            // INTEGER (0..9, ...), the marker read with the range
+            yes(alloc, number_in(alloc, extensible_range(0, 9)), whole(9)),
+            no(alloc, number_in(alloc, extensible_range(0, 9)), whole(10)),
         ]),
         None
     );
 }
 
-// { low(1), high(9) }
-fn low_and_high(alloc: Global) -> Mem<List<DistinguishedValue>> {
-    with(
-        list_of(alloc, named_number(alloc, "low", 1)),
-        named_number(alloc, "high", 9),
-    )
-}
-
 // INTEGER { low(1), high(9) } (low<..high)
 fn between_names(alloc: Global) -> Mem<ASN1Type> {
     let ends = behind(name_value(alloc, "low"), name_value(alloc, "high"));
-    numbered_with(low_and_high(alloc), alone(alloc, ends))
+    numbered_with(
+        with(
+            list_of(alloc, named_number(alloc, "low", 1)),
+            named_number(alloc, "high", 9),
+        ),
+        alone(alloc, ends),
+    )
 }
 
 // INTEGER { low(1), high(9) } (high)
 fn at_a_name(alloc: Global) -> Mem<ASN1Type> {
     numbered_with(
-        low_and_high(alloc),
+        with(
+            list_of(alloc, named_number(alloc, "low", 1)),
+            named_number(alloc, "high", 9),
+        ),
         alone(alloc, single(name_value(alloc, "high"))),
     )
-}
-
-// INTEGER (0.."a"): the upper end denotes no whole number
-fn up_to_a_text(alloc: Global) -> Mem<ASN1Type> {
-    integer_with(alone(alloc, between(number(0), text_value(alloc, "a"))))
 }
 
 // INTEGER (ALL EXCEPT 5)
@@ -207,27 +164,13 @@ fn ends_that_are_no_plain_numbers(rt: HostRuntime) {
             yes(alloc, between_names(alloc), whole(9)),
             yes(alloc, at_a_name(alloc), whole(9)),
             no(alloc, at_a_name(alloc), whole(1)),
-            no(alloc, up_to_a_text(alloc), whole(0)),
+            // INTEGER (0.."a"): the upper end denotes no whole number
+            no(alloc, number_in(alloc, between(number(0), text_value(alloc, "a"))), whole(0)),
             yes(alloc, all_but_five(alloc), whole(6)),
             no(alloc, all_but_five(alloc), whole(5)),
         ]),
         None
     );
-}
-
-// BOOLEAN (0..1)
-fn range_on_boolean(alloc: Global) -> Mem<ASN1Type> {
-    boolean_with(alone(alloc, range(0, 1)))
-}
-
-// REAL (0..1)
-fn range_on_real(alloc: Global) -> Mem<ASN1Type> {
-    real_with(alone(alloc, range(0, 1)))
-}
-
-// TYPE-IDENTIFIER.&Type (0..1)
-fn range_on_open_type(alloc: Global) -> Mem<ASN1Type> {
-    type_field_of_class(alloc, "TYPE-IDENTIFIER", "&Type", alone(alloc, range(0, 1)))
 }
 
 // An element accepts nothing on a kind that it does not fit, save where every constraint counts as true.
@@ -236,12 +179,15 @@ fn ranges_on_other_kinds(rt: HostRuntime) {
     let alloc = rt.alloc();
     assert_eq!(rt;
         first_wrong(&[
-            no(alloc, range_on_boolean(alloc), truth(true)),
-            no(alloc, closed(alloc), text(alloc, "5")),
-            yes(alloc, range_on_real(alloc), real(5, 0)),
-            no(alloc, range_on_real(alloc), whole(5)),
-            yes(alloc, range_on_open_type(alloc), whole(5)),
-            yes(alloc, range_on_open_type(alloc), nothing()),
+            // BOOLEAN (0..1)
+            no(alloc, boolean_with(alone(alloc, range(0, 1))), truth(true)),
+            no(alloc, number_in(alloc, range(1, 9)), text(alloc, "5")),
+            // REAL (0..1)
+            yes(alloc, real_with(alone(alloc, range(0, 1))), real(5, 0)),
+            no(alloc, real_with(alone(alloc, range(0, 1))), whole(5)),
+            // TYPE-IDENTIFIER.&Type (0..1)
+            yes(alloc, type_field_of_class(alloc, "TYPE-IDENTIFIER", "&Type", alone(alloc, range(0, 1))), whole(5)),
+            yes(alloc, type_field_of_class(alloc, "TYPE-IDENTIFIER", "&Type", alone(alloc, range(0, 1))), nothing()),
         ]),
         None
     );

@@ -9,8 +9,8 @@ use crate::trees::{
     opaque, real, text, truth, whole,
 };
 use crate::types::{
-    bits_with, boolean_with, choice_with, enumerated_with, flags_with, free, ia5_with,
-    identifier_with, integer_with, item_of, named_number, null, octets_with, option, optional,
+    bits_with, boolean_with, choice_with, enumerated_with, flags_with, ia5_with, identifier_with,
+    integer, integer_with, item_of, named_number, null, number_in, octets_with, option, optional,
     real_with, required, sequence_of_with, sequence_with, time_with, utc_time_with,
 };
 use crate::written::{
@@ -28,11 +28,6 @@ fn at(alloc: Global, value: Mem<ASN1Value>) -> Mem<List<Constraint>> {
     alone(alloc, single(value))
 }
 
-// BOOLEAN (TRUE)
-fn true_alone(alloc: Global) -> Mem<ASN1Type> {
-    boolean_with(at(alloc, truth_value(true)))
-}
-
 // ENUMERATED { a(0), b(1) } (b)
 fn item_b(alloc: Global) -> Mem<ASN1Type> {
     let items = with(
@@ -42,29 +37,22 @@ fn item_b(alloc: Global) -> Mem<ASN1Type> {
     enumerated_with(items, at(alloc, name_value(alloc, "b")))
 }
 
-// IA5String ("ab")
-fn text_ab(alloc: Global) -> Mem<ASN1Type> {
-    ia5_with(at(alloc, text_value(alloc, "ab")))
-}
-
-// UTCTime ("0906011200Z")
-fn one_time(alloc: Global) -> Mem<ASN1Type> {
-    utc_time_with(at(alloc, time_value(alloc, "0906011200Z")))
-}
-
 #[test]
 fn truths_items_and_texts(rt: HostRuntime) {
     let alloc = rt.alloc();
     assert_eq!(rt;
         first_wrong(&[
-            yes(alloc, true_alone(alloc), truth(true)),
-            no(alloc, true_alone(alloc), truth(false)),
+            // BOOLEAN (TRUE)
+            yes(alloc, boolean_with(at(alloc, truth_value(true))), truth(true)),
+            no(alloc, boolean_with(at(alloc, truth_value(true))), truth(false)),
             yes(alloc, item_b(alloc), item(1)),
             no(alloc, item_b(alloc), item(0)),
-            yes(alloc, text_ab(alloc), text(alloc, "ab")),
-            no(alloc, text_ab(alloc), text(alloc, "a")),
-            yes(alloc, one_time(alloc), text(alloc, "0906011200Z")),
-            no(alloc, one_time(alloc), text(alloc, "0906011201Z")),
+            // IA5String ("ab")
+            yes(alloc, ia5_with(at(alloc, text_value(alloc, "ab"))), text(alloc, "ab")),
+            no(alloc, ia5_with(at(alloc, text_value(alloc, "ab"))), text(alloc, "a")),
+            // UTCTime ("0906011200Z")
+            yes(alloc, utc_time_with(at(alloc, time_value(alloc, "0906011200Z"))), text(alloc, "0906011200Z")),
+            no(alloc, utc_time_with(at(alloc, time_value(alloc, "0906011200Z"))), text(alloc, "0906011201Z")),
         ]),
         None
     );
@@ -79,11 +67,6 @@ fn flag_a(alloc: Global) -> Mem<ASN1Type> {
     flags_with(flags, at(alloc, named_bit(alloc, "a")))
 }
 
-// BIT STRING ('10'B)
-fn two_bits(alloc: Global) -> Mem<ASN1Type> {
-    bits_with(at(alloc, bits_value(alloc, &[true, false])))
-}
-
 // OCTET STRING ('10000001'B)
 fn one_octet(alloc: Global) -> Mem<ASN1Type> {
     let bits = bits_value(
@@ -93,11 +76,6 @@ fn one_octet(alloc: Global) -> Mem<ASN1Type> {
     octets_with(at(alloc, bits))
 }
 
-// OBJECT IDENTIFIER ({ iso(1) 3 }): an arc with a number stands for it
-fn one_identifier(alloc: Global) -> Mem<ASN1Type> {
-    identifier_with(at(alloc, identifier_value(alloc, "iso", 1, 3)))
-}
-
 #[test]
 fn bits_octets_and_identifiers(rt: HostRuntime) {
     let alloc = rt.alloc();
@@ -105,19 +83,17 @@ fn bits_octets_and_identifiers(rt: HostRuntime) {
         first_wrong(&[
             yes(alloc, flag_a(alloc), bits(alloc, &[true, false, false])),
             no(alloc, flag_a(alloc), bits(alloc, &[true])),
-            yes(alloc, two_bits(alloc), bits(alloc, &[true, false])),
-            no(alloc, two_bits(alloc), bits(alloc, &[true])),
+            // BIT STRING ('10'B)
+            yes(alloc, bits_with(at(alloc, bits_value(alloc, &[true, false]))), bits(alloc, &[true, false])),
+            no(alloc, bits_with(at(alloc, bits_value(alloc, &[true, false]))), bits(alloc, &[true])),
             yes(alloc, one_octet(alloc), octets(alloc, &[129])),
             no(alloc, one_octet(alloc), octets(alloc, &[128])),
-            yes(alloc, one_identifier(alloc), identifier(alloc, &[1, 3])),
-            no(alloc, one_identifier(alloc), identifier(alloc, &[1, 2])),
+            // OBJECT IDENTIFIER ({ iso(1) 3 }): an arc with a number stands for it
+            yes(alloc, identifier_with(at(alloc, identifier_value(alloc, "iso", 1, 3))), identifier(alloc, &[1, 3])),
+            no(alloc, identifier_with(at(alloc, identifier_value(alloc, "iso", 1, 3))), identifier(alloc, &[1, 2])),
         ]),
         None
     );
-}
-
-fn integer(alloc: Global) -> Mem<ASN1Type> {
-    integer_with(free(alloc))
 }
 
 // SEQUENCE { a INTEGER, b INTEGER OPTIONAL } ({ a 1 })
@@ -144,10 +120,6 @@ fn i_of_five(alloc: Global) -> Mem<ASN1Type> {
     choice_with(options, at(alloc, chosen_value(alloc, "i", number(5))))
 }
 
-fn a_and_b(alloc: Global) -> Mem<asn_shapes::Tree> {
-    fields_of_two(alloc, "a", whole(1), "b", whole(2))
-}
-
 #[test]
 fn values_with_parts(rt: HostRuntime) {
     let alloc = rt.alloc();
@@ -163,7 +135,11 @@ fn values_with_parts(rt: HostRuntime) {
                 struct_of_a(alloc),
                 fields_of_one(alloc, "a", whole(2))
             ),
-            no(alloc, struct_of_a(alloc), a_and_b(alloc)),
+            no(
+                alloc,
+                struct_of_a(alloc),
+                fields_of_two(alloc, "a", whole(1), "b", whole(2))
+            ),
             yes(
                 alloc,
                 one_and_two(alloc),
@@ -182,23 +158,15 @@ fn values_with_parts(rt: HostRuntime) {
     );
 }
 
-// INTEGER ("a"): a value that denotes none
-fn number_as_text(alloc: Global) -> Mem<ASN1Type> {
-    integer_with(at(alloc, text_value(alloc, "a")))
-}
-
-// REAL (5)
-fn real_five(alloc: Global) -> Mem<ASN1Type> {
-    real_with(at(alloc, number(5)))
-}
-
 #[test]
 fn values_of_other_kinds(rt: HostRuntime) {
     let alloc = rt.alloc();
     assert_eq!(rt;
         first_wrong(&[
-            no(alloc, number_as_text(alloc), whole(1)),
-            yes(alloc, real_five(alloc), real(6, 0)),
+            // INTEGER ("a"): a value that denotes none
+            no(alloc, integer_with(at(alloc, text_value(alloc, "a"))), whole(1)),
+            // REAL (5)
+            yes(alloc, real_with(at(alloc, number(5))), real(6, 0)),
             yes(alloc, null(), nothing()),
             no(alloc, null(), opaque()),
         ]),
@@ -206,26 +174,11 @@ fn values_of_other_kinds(rt: HostRuntime) {
     );
 }
 
-// IA5String (PATTERN "[0-9]")
-fn with_a_pattern(alloc: Global) -> Mem<ASN1Type> {
-    ia5_with(alone(alloc, pattern(alloc, "[0-9]")))
-}
-
-// INTEGER (CONSTRAINED BY { -- prime -- })
-fn user_constrained(alloc: Global) -> Mem<ASN1Type> {
-    integer_with(alone(alloc, constrained_by(alloc, "-- prime --")))
-}
-
 fn settings(alloc: Global) -> Mem<SubtypeElement> {
     let setting = PropertyAndSettingsPair::Basic(BasicSettings::Date);
     Ok(SubtypeElement::PropertySettings(PropertySettings {
         property_settings_list: List::of(alloc, setting)?,
     }))
-}
-
-// TIME (SETTINGS "Basic=Date")
-fn with_settings(alloc: Global) -> Mem<ASN1Type> {
-    time_with(alone(alloc, settings(alloc)))
 }
 
 // OCTET STRING (CONTAINING NULL)
@@ -244,22 +197,21 @@ fn empty_table(alloc: Global) -> Constraint {
     })
 }
 
-// INTEGER ({})
-fn with_a_table(alloc: Global) -> Mem<ASN1Type> {
-    integer_with(List::of(alloc, empty_table(alloc)))
-}
-
 #[test]
 fn constraints_that_say_yes(rt: HostRuntime) {
     let alloc = rt.alloc();
     assert_eq!(rt;
         first_wrong(&[
-            yes(alloc, with_a_pattern(alloc), text(alloc, "ab")),
-            yes(alloc, user_constrained(alloc), whole(4)),
-            yes(alloc, with_settings(alloc), text(alloc, "12:00")),
+            // IA5String (PATTERN "[0-9]")
+            yes(alloc, ia5_with(alone(alloc, pattern(alloc, "[0-9]"))), text(alloc, "ab")),
+            // INTEGER (CONSTRAINED BY { -- prime -- })
+            yes(alloc, number_in(alloc, constrained_by(alloc, "-- prime --")), whole(4)),
+            // TIME (SETTINGS "Basic=Date")
+            yes(alloc, time_with(alone(alloc, settings(alloc))), text(alloc, "12:00")),
             yes(alloc, with_contents(alloc), octets(alloc, &[1])),
-            yes(alloc, with_a_table(alloc), whole(4)),
-            no(alloc, with_a_table(alloc), truth(true)),
+            // INTEGER ({})
+            yes(alloc, integer_with(List::of(alloc, empty_table(alloc))), whole(4)),
+            no(alloc, integer_with(List::of(alloc, empty_table(alloc))), truth(true)),
         ]),
         None
     );

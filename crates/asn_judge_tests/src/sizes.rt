@@ -8,8 +8,8 @@ use crate::judging::{no, yes};
 use crate::rows::first_wrong;
 use crate::trees::{bits, elements, no_elements, octets, one_element, real, text, whole};
 use crate::types::{
-    bits_with, free, ia5_with, integer_with, octets_with, real_with, sequence_of_with, set_of_with,
-    string_with,
+    bits_with, ia5_with, integer, integer_with, number_in, octets_with, real_with,
+    sequence_of_with, set_of_with, string_with,
 };
 use crate::written::{all, text_value};
 use asn_memory::{List, Mem};
@@ -20,59 +20,23 @@ fn of_size(alloc: Global, number: i128) -> Mem<List<Constraint>> {
     alone(alloc, size_of(alloc, number))
 }
 
-// BIT STRING (SIZE (3))
-fn three_bits(alloc: Global) -> Mem<ASN1Type> {
-    bits_with(of_size(alloc, 3))
-}
-
-// OCTET STRING (SIZE (2))
-fn two_octets(alloc: Global) -> Mem<ASN1Type> {
-    octets_with(of_size(alloc, 2))
-}
-
-// UTF8String (SIZE (2))
-fn two_characters(alloc: Global) -> Mem<ASN1Type> {
-    string_with(CharacterStringType::UTF8String, of_size(alloc, 2))
-}
-
 #[test]
 fn sizes_of_strings(rt: HostRuntime) {
     let alloc = rt.alloc();
     assert_eq!(rt;
         first_wrong(&[
-            yes(alloc, three_bits(alloc), bits(alloc, &[true, false, false])),
-            no(alloc, three_bits(alloc), bits(alloc, &[true, false])),
-            yes(alloc, two_octets(alloc), octets(alloc, &[1, 2])),
-            no(alloc, two_octets(alloc), octets(alloc, &[1])),
-            yes(alloc, two_characters(alloc), text(alloc, "\u{e9}\u{20ac}")),
-            no(alloc, two_characters(alloc), text(alloc, "\u{e9}")),
+            // BIT STRING (SIZE (3))
+            yes(alloc, bits_with(of_size(alloc, 3)), bits(alloc, &[true, false, false])),
+            no(alloc, bits_with(of_size(alloc, 3)), bits(alloc, &[true, false])),
+            // OCTET STRING (SIZE (2))
+            yes(alloc, octets_with(of_size(alloc, 2)), octets(alloc, &[1, 2])),
+            no(alloc, octets_with(of_size(alloc, 2)), octets(alloc, &[1])),
+            // UTF8String (SIZE (2))
+            yes(alloc, string_with(CharacterStringType::UTF8String, of_size(alloc, 2)), text(alloc, "\u{e9}\u{20ac}")),
+            no(alloc, string_with(CharacterStringType::UTF8String, of_size(alloc, 2)), text(alloc, "\u{e9}")),
         ]),
         None
     );
-}
-
-fn integer(alloc: Global) -> Mem<ASN1Type> {
-    integer_with(free(alloc))
-}
-
-// SEQUENCE (SIZE (2)) OF INTEGER
-fn two_elements(alloc: Global) -> Mem<ASN1Type> {
-    sequence_of_with(alloc, integer(alloc), of_size(alloc, 2))
-}
-
-// SET (SIZE (0)) OF INTEGER
-fn no_element(alloc: Global) -> Mem<ASN1Type> {
-    set_of_with(alloc, integer(alloc), of_size(alloc, 0))
-}
-
-// INTEGER (SIZE (1)): a whole number has no size
-fn number_of_a_size(alloc: Global) -> Mem<ASN1Type> {
-    integer_with(of_size(alloc, 1))
-}
-
-// REAL (SIZE (1)): constraints on REAL count as true
-fn real_of_a_size(alloc: Global) -> Mem<ASN1Type> {
-    real_with(of_size(alloc, 1))
 }
 
 #[test]
@@ -80,16 +44,20 @@ fn sizes_of_lists_and_others(rt: HostRuntime) {
     let alloc = rt.alloc();
     assert_eq!(rt;
         first_wrong(&[
+            // SEQUENCE (SIZE (2)) OF INTEGER
             yes(
                 alloc,
-                two_elements(alloc),
+                sequence_of_with(alloc, integer(alloc), of_size(alloc, 2)),
                 elements(alloc, whole(1), whole(2))
             ),
-            no(alloc, two_elements(alloc), one_element(alloc, whole(1))),
-            yes(alloc, no_element(alloc), no_elements(alloc)),
-            no(alloc, no_element(alloc), one_element(alloc, whole(1))),
-            no(alloc, number_of_a_size(alloc), whole(1)),
-            yes(alloc, real_of_a_size(alloc), real(1, 0)),
+            no(alloc, sequence_of_with(alloc, integer(alloc), of_size(alloc, 2)), one_element(alloc, whole(1))),
+            // SET (SIZE (0)) OF INTEGER
+            yes(alloc, set_of_with(alloc, integer(alloc), of_size(alloc, 0)), no_elements(alloc)),
+            no(alloc, set_of_with(alloc, integer(alloc), of_size(alloc, 0)), one_element(alloc, whole(1))),
+            // INTEGER (SIZE (1)): a whole number has no size
+            no(alloc, integer_with(of_size(alloc, 1)), whole(1)),
+            // REAL (SIZE (1)): constraints on REAL count as true
+            yes(alloc, real_with(of_size(alloc, 1)), real(1, 0)),
         ]),
         None
     );
@@ -104,24 +72,12 @@ fn one_or_three(alloc: Global) -> Mem<ASN1Type> {
     ia5_of(alloc, size(alloc, or(alloc, only(1), one(only(3)))))
 }
 
-// IA5String (SIZE (MIN<..<MAX)): sizes begin at 0 and have no end
-fn marked(alloc: Global) -> Mem<ASN1Type> {
-    ia5_of(alloc, size(alloc, one(whole_range(true, true))))
-}
-
-// IA5String (SIZE (ALL))
-fn any_size(alloc: Global) -> Mem<ASN1Type> {
-    ia5_of(alloc, size(alloc, one(single(all()))))
-}
-
-// INTEGER (0..2)
-fn small(alloc: Global) -> Mem<ASN1Type> {
-    integer_with(alone(alloc, range(0, 2)))
-}
-
 // IA5String (SIZE (INCLUDES INTEGER (0..2)))
 fn of_small_size(alloc: Global) -> Mem<ASN1Type> {
-    ia5_of(alloc, size(alloc, one(included(small(alloc)))))
+    ia5_of(
+        alloc,
+        size(alloc, one(included(number_in(alloc, range(0, 2))))),
+    )
 }
 
 #[test]
@@ -131,9 +87,11 @@ fn sets_of_sizes(rt: HostRuntime) {
         first_wrong(&[
             yes(alloc, one_or_three(alloc), text(alloc, "abc")),
             no(alloc, one_or_three(alloc), text(alloc, "ab")),
-            no(alloc, marked(alloc), text(alloc, "")),
-            yes(alloc, marked(alloc), text(alloc, "a")),
-            yes(alloc, any_size(alloc), text(alloc, "abc")),
+            // IA5String (SIZE (MIN<..<MAX)): sizes begin at 0 and have no end
+            no(alloc, ia5_of(alloc, size(alloc, one(whole_range(true, true)))), text(alloc, "")),
+            yes(alloc, ia5_of(alloc, size(alloc, one(whole_range(true, true)))), text(alloc, "a")),
+            // IA5String (SIZE (ALL))
+            yes(alloc, ia5_of(alloc, size(alloc, one(single(all())))), text(alloc, "abc")),
             yes(alloc, of_small_size(alloc), text(alloc, "ab")),
             no(alloc, of_small_size(alloc), text(alloc, "abc")),
         ]),
@@ -141,16 +99,19 @@ fn sets_of_sizes(rt: HostRuntime) {
     );
 }
 
-fn lower_case(alloc: Global) -> Mem<SubtypeElement> {
-    from(
-        alloc,
-        one(between(text_value(alloc, "a"), text_value(alloc, "z"))),
-    )
-}
-
 // IA5String (FROM ("a".."z") ^ SIZE (2))
 fn two_letters(alloc: Global) -> Mem<ASN1Type> {
-    ia5_with(in_set(alloc, and(alloc, lower_case(alloc), one(size_of(alloc, 2)))))
+    ia5_with(in_set(
+        alloc,
+        and(
+            alloc,
+            from(
+                alloc,
+                one(between(text_value(alloc, "a"), text_value(alloc, "z"))),
+            ),
+            one(size_of(alloc, 2)),
+        ),
+    ))
 }
 
 // IA5String (SIZE (1..3))(SIZE (2..5))

@@ -10,34 +10,25 @@ use crate::trees::{
     truth, whole,
 };
 use crate::types::{
-    boolean_with, choice_with, free, integer_with, member_with, one_by_default, option,
-    option_with, optional, required, sequence_extended_at, sequence_of_with, sequence_with,
-    set_of_with, set_with,
+    boolean, choice_with, free, member_with, number_in, one_by_default, option, option_with,
+    optional, required, sequence_extended_at, sequence_of_with, sequence_with, set_of_with,
+    set_with,
 };
 use asn_memory::{List, Mem};
 use asn_shapes::Tree;
 use asn_tree::{ASN1Type, SequenceOrSetMember};
 use std::alloc::Global;
 
-// INTEGER (0..9)
-fn digit(alloc: Global) -> Mem<ASN1Type> {
-    integer_with(alone(alloc, range(0, 9)))
-}
-
 // a INTEGER (0..9), b BOOLEAN OPTIONAL
 fn members(alloc: Global) -> Mem<List<SequenceOrSetMember>> {
-    let first = list_of(alloc, required(alloc, "a", digit(alloc)));
-    with(first, optional(alloc, "b", boolean_with(free(alloc))))
+    // INTEGER (0..9)
+    let first = list_of(alloc, required(alloc, "a", number_in(alloc, range(0, 9))));
+    with(first, optional(alloc, "b", boolean(alloc)))
 }
 
 // SEQUENCE { a INTEGER (0..9), b BOOLEAN OPTIONAL }
 fn sequence(alloc: Global) -> Mem<ASN1Type> {
     sequence_with(alloc, members(alloc), free(alloc))
-}
-
-// SET { a INTEGER (0..9), b BOOLEAN OPTIONAL }
-fn set(alloc: Global) -> Mem<ASN1Type> {
-    set_with(alloc, members(alloc), free(alloc))
 }
 
 fn a(alloc: Global, number: i128) -> Mem<Tree> {
@@ -48,10 +39,6 @@ fn a_and(alloc: Global, name: &str, tree: Mem<Tree>) -> Mem<Tree> {
     fields_of_two(alloc, "a", whole(1), name, tree)
 }
 
-fn b_and_a(alloc: Global) -> Mem<Tree> {
-    fields_of_two(alloc, "b", truth(true), "a", whole(1))
-}
-
 #[test]
 fn members_of_structs(rt: HostRuntime) {
     let alloc = rt.alloc();
@@ -60,11 +47,12 @@ fn members_of_structs(rt: HostRuntime) {
             yes(alloc, sequence(alloc), a(alloc, 9)),
             no(alloc, sequence(alloc), a(alloc, 10)),
             no(alloc, sequence(alloc), no_fields(alloc)),
-            yes(alloc, sequence(alloc), b_and_a(alloc)),
+            yes(alloc, sequence(alloc), fields_of_two(alloc, "b", truth(true), "a", whole(1))),
             no(alloc, sequence(alloc), a_and(alloc, "b", whole(1))),
             no(alloc, sequence(alloc), a_and(alloc, "z", truth(true))),
-            yes(alloc, set(alloc), b_and_a(alloc)),
-            no(alloc, set(alloc), a(alloc, 10)),
+            // SET { a INTEGER (0..9), b BOOLEAN OPTIONAL }
+            yes(alloc, set_with(alloc, members(alloc), free(alloc)), fields_of_two(alloc, "b", truth(true), "a", whole(1))),
+            no(alloc, set_with(alloc, members(alloc), free(alloc)), a(alloc, 10)),
         ]),
         None
     );
@@ -73,12 +61,7 @@ fn members_of_structs(rt: HostRuntime) {
 // a INTEGER DEFAULT 1, e INTEGER (0..9)
 fn defaulted(alloc: Global) -> Mem<List<SequenceOrSetMember>> {
     let first = list_of(alloc, one_by_default(alloc, "a"));
-    with(first, required(alloc, "e", digit(alloc)))
-}
-
-// SEQUENCE { a INTEGER DEFAULT 1, ..., e INTEGER (0..9) }
-fn extended(alloc: Global) -> Mem<ASN1Type> {
-    sequence_extended_at(alloc, defaulted(alloc), 1)
+    with(first, required(alloc, "e", number_in(alloc, range(0, 9))))
 }
 
 fn e(alloc: Global, number: i128) -> Mem<Tree> {
@@ -88,12 +71,10 @@ fn e(alloc: Global, number: i128) -> Mem<Tree> {
 // INTEGER (0..9), and behind it the constraint (5..20) of the place
 fn narrowed(alloc: Global) -> Mem<List<SequenceOrSetMember>> {
     let place = alone(alloc, range(5, 20));
-    list_of(alloc, member_with(alloc, "a", digit(alloc), false, place))
-}
-
-// SEQUENCE { a Digit (5..20) }, the constraint kept with the member
-fn constrained(alloc: Global) -> Mem<ASN1Type> {
-    sequence_with(alloc, narrowed(alloc), free(alloc))
+    list_of(
+        alloc,
+        member_with(alloc, "a", number_in(alloc, range(0, 9)), false, place),
+    )
 }
 
 #[test]
@@ -101,12 +82,14 @@ fn absent_members_and_places(rt: HostRuntime) {
     let alloc = rt.alloc();
     assert_eq!(rt;
         first_wrong(&[
-            yes(alloc, extended(alloc), no_fields(alloc)),
-            yes(alloc, extended(alloc), e(alloc, 9)),
-            no(alloc, extended(alloc), e(alloc, 10)),
-            yes(alloc, constrained(alloc), a(alloc, 7)),
-            no(alloc, constrained(alloc), a(alloc, 3)),
-            no(alloc, constrained(alloc), a(alloc, 15)),
+            // SEQUENCE { a INTEGER DEFAULT 1, ..., e INTEGER (0..9) }
+            yes(alloc, sequence_extended_at(alloc, defaulted(alloc), 1), no_fields(alloc)),
+            yes(alloc, sequence_extended_at(alloc, defaulted(alloc), 1), e(alloc, 9)),
+            no(alloc, sequence_extended_at(alloc, defaulted(alloc), 1), e(alloc, 10)),
+            // SEQUENCE { a Digit (5..20) }, the constraint kept with the member
+            yes(alloc, sequence_with(alloc, narrowed(alloc), free(alloc)), a(alloc, 7)),
+            no(alloc, sequence_with(alloc, narrowed(alloc), free(alloc)), a(alloc, 3)),
+            no(alloc, sequence_with(alloc, narrowed(alloc), free(alloc)), a(alloc, 15)),
         ]),
         None
     );
@@ -114,12 +97,7 @@ fn absent_members_and_places(rt: HostRuntime) {
 
 // SEQUENCE OF INTEGER (0..9)
 fn digits(alloc: Global) -> Mem<ASN1Type> {
-    sequence_of_with(alloc, digit(alloc), free(alloc))
-}
-
-// SET OF INTEGER (0..9)
-fn set_of_digits(alloc: Global) -> Mem<ASN1Type> {
-    set_of_with(alloc, digit(alloc), free(alloc))
+    sequence_of_with(alloc, number_in(alloc, range(0, 9)), free(alloc))
 }
 
 #[test]
@@ -131,8 +109,9 @@ fn lists(rt: HostRuntime) {
             no(alloc, digits(alloc), elements(alloc, whole(1), whole(10))),
             yes(alloc, digits(alloc), no_elements(alloc)),
             no(alloc, digits(alloc), whole(1)),
-            yes(alloc, set_of_digits(alloc), one_element(alloc, whole(9))),
-            no(alloc, set_of_digits(alloc), one_element(alloc, whole(10))),
+            // SET OF INTEGER (0..9)
+            yes(alloc, set_of_with(alloc, number_in(alloc, range(0, 9)), free(alloc)), one_element(alloc, whole(9))),
+            no(alloc, set_of_with(alloc, number_in(alloc, range(0, 9)), free(alloc)), one_element(alloc, whole(10))),
         ]),
         None
     );
@@ -141,7 +120,7 @@ fn lists(rt: HostRuntime) {
 // CHOICE { i INTEGER (0..9) }
 fn choice(alloc: Global) -> Mem<ASN1Type> {
     choice_with(
-        list_of(alloc, option(alloc, "i", digit(alloc))),
+        list_of(alloc, option(alloc, "i", number_in(alloc, range(0, 9)))),
         free(alloc),
     )
 }
@@ -149,7 +128,10 @@ fn choice(alloc: Global) -> Mem<ASN1Type> {
 // CHOICE { i Digit (5..20) }, the constraint kept with the option
 fn narrow_choice(alloc: Global) -> Mem<ASN1Type> {
     let place = alone(alloc, range(5, 20));
-    let options = list_of(alloc, option_with(alloc, "i", digit(alloc), place));
+    let options = list_of(
+        alloc,
+        option_with(alloc, "i", number_in(alloc, range(0, 9)), place),
+    );
     choice_with(options, free(alloc))
 }
 

@@ -6,12 +6,13 @@ use crate::definitions::{
     value_definition, value_dummy,
 };
 use crate::pairs::{list_of, with};
+use crate::parts::named;
 use crate::rows::first_wrong;
 use crate::trees::{
     fields_of_one, fields_of_two, no_elements, no_fields, nothing, one_element, text, truth, whole,
 };
 use crate::types::{
-    boolean_with, by_default, free, ia5_with, integer_with, named_with, null, optional, required,
+    boolean, by_default, free, ia5_with, integer, named_with, null, number_in, optional, required,
     sequence_of_with, sequence_with,
 };
 use crate::written::{all, name_value, null_value, number, text_value, truth_value};
@@ -21,14 +22,6 @@ use asn_tree::{
     ASN1Type, Parameter, ParameterizationArgument, SequenceOrSetMember, ToplevelDefinition,
 };
 use std::alloc::Global;
-
-fn integer(alloc: Global) -> Mem<ASN1Type> {
-    integer_with(free(alloc))
-}
-
-fn name(alloc: Global, name: &str) -> Mem<ASN1Type> {
-    named_with(alloc, name, free(alloc))
-}
 
 fn dummy(alloc: Global, name: &str) -> Mem<List<ParameterizationArgument>> {
     list_of(alloc, type_dummy(alloc, name))
@@ -58,7 +51,7 @@ fn of_type(alloc: Global, template: &str, argument: Mem<ASN1Type>) -> Mem<ASN1Ty
 
 // INTEGER (0..max)
 fn up_to_max(alloc: Global) -> Mem<ASN1Type> {
-    integer_with(alone(alloc, between(number(0), name_value(alloc, "max"))))
+    number_in(alloc, between(number(0), name_value(alloc, "max")))
 }
 
 // Small { INTEGER: max } ::= INTEGER (0..max)
@@ -68,19 +61,9 @@ fn small(alloc: Global) -> Mem<ToplevelDefinition> {
 
 // Held { INTEGER: max } ::= SEQUENCE { a Plain }
 fn held(alloc: Global) -> Mem<ToplevelDefinition> {
-    let members = list_of(alloc, required(alloc, "a", name(alloc, "Plain")));
+    let members = list_of(alloc, required(alloc, "a", named(alloc, "Plain")));
     let ty = sequence_with(alloc, members, free(alloc));
     template(alloc, "Held", number_dummy(alloc, "max"), ty)
-}
-
-// Plain ::= INTEGER (0..max)
-fn plain(alloc: Global) -> Mem<ToplevelDefinition> {
-    type_definition(alloc, "Plain", up_to_max(alloc))
-}
-
-// max INTEGER ::= 3
-fn max(alloc: Global) -> Mem<ToplevelDefinition> {
-    value_definition(alloc, "max", integer(alloc), number(3))
 }
 
 // a Small { 2 }, b INTEGER (0..max)
@@ -96,8 +79,15 @@ fn nest(alloc: Global) -> Mem<ToplevelDefinition> {
 }
 
 fn of_values(alloc: Global) -> Mem<List<ToplevelDefinition>> {
-    let first = with(list_of(alloc, small(alloc)), held(alloc));
-    with(with(with(first, plain(alloc)), max(alloc)), nest(alloc))
+    // Plain ::= INTEGER (0..max)
+    let plain = type_definition(alloc, "Plain", up_to_max(alloc));
+    // max INTEGER ::= 3
+    let max = value_definition(alloc, "max", integer(alloc), number(3));
+    let definitions = with(
+        with(with(list_of(alloc, small(alloc)), held(alloc)), plain),
+        max,
+    );
+    with(definitions, nest(alloc))
 }
 
 fn says(alloc: Global, ty: Mem<ASN1Type>, tree: Mem<Tree>, answer: Answer) -> Mem<bool> {
@@ -114,16 +104,6 @@ fn of_two_numbers(alloc: Global) -> Mem<ASN1Type> {
     )
 }
 
-// Small {}
-fn of_nothing(alloc: Global) -> Mem<ASN1Type> {
-    named_with(alloc, "Small", arguments(alloc, Ok(List::new(alloc))))
-}
-
-// Small { TRUE }: the argument denotes no whole number
-fn of_a_truth(alloc: Global) -> Mem<ASN1Type> {
-    of(alloc, "Small", value_argument(truth_value(true)))
-}
-
 // The dummy stands before the value of its name, max.
 #[test]
 fn dummies_in_constraints(rt: HostRuntime) {
@@ -135,9 +115,11 @@ fn dummies_in_constraints(rt: HostRuntime) {
             says(alloc, of_number(alloc, "Small", 2), whole(3), Answer::No),
             says(alloc, of_two_numbers(alloc), whole(7), Answer::Yes),
             says(alloc, of_two_numbers(alloc), whole(8), Answer::No),
-            says(alloc, of_nothing(alloc), whole(0), Answer::Unknown),
-            says(alloc, name(alloc, "Small"), whole(0), Answer::Unknown),
-            says(alloc, of_a_truth(alloc), whole(0), Answer::No),
+            // Small {}
+            says(alloc, named_with(alloc, "Small", arguments(alloc, Ok(List::new(alloc)))), whole(0), Answer::Unknown),
+            says(alloc, named(alloc, "Small"), whole(0), Answer::Unknown),
+            // Small { TRUE }: the argument denotes no whole number
+            says(alloc, of(alloc, "Small", value_argument(truth_value(true))), whole(0), Answer::No),
         ]),
         None
     );
@@ -149,11 +131,6 @@ fn a(alloc: Global, number: i128) -> Mem<Tree> {
 
 fn a_and_b(alloc: Global, a: i128, b: i128) -> Mem<Tree> {
     fields_of_two(alloc, "a", whole(a), "b", whole(b))
-}
-
-// Plain { 7 }: no template, so it takes no list
-fn list_on_no_template(alloc: Global) -> Mem<ASN1Type> {
-    of_number(alloc, "Plain", 7)
 }
 
 // A dummy is known in its own template alone: not in a type that the template names, and in another template that has a
@@ -183,7 +160,8 @@ fn dummies_are_known_in_their_template(rt: HostRuntime) {
                 a_and_b(alloc, 2, 2),
                 Answer::No
             ),
-            says(alloc, list_on_no_template(alloc), whole(0), Answer::Unknown),
+            // Plain { 7 }: no template, so it takes no list
+            says(alloc, of_number(alloc, "Plain", 7), whole(0), Answer::Unknown),
         ]),
         None
     );
@@ -193,23 +171,13 @@ fn dummies_are_known_in_their_template(rt: HostRuntime) {
 
 // List { X } ::= SEQUENCE OF X
 fn list(alloc: Global) -> Mem<ToplevelDefinition> {
-    let ty = sequence_of_with(alloc, name(alloc, "X"), free(alloc));
+    let ty = sequence_of_with(alloc, named(alloc, "X"), free(alloc));
     template(alloc, "List", dummy(alloc, "X"), ty)
-}
-
-// Outer { X } ::= List { X }
-fn outer(alloc: Global) -> Mem<ToplevelDefinition> {
-    template(
-        alloc,
-        "Outer",
-        dummy(alloc, "X"),
-        of_type(alloc, "List", name(alloc, "X")),
-    )
 }
 
 // Lists { X } ::= List { SEQUENCE OF X }
 fn list_of_lists(alloc: Global) -> Mem<ToplevelDefinition> {
-    let lists = sequence_of_with(alloc, name(alloc, "X"), free(alloc));
+    let lists = sequence_of_with(alloc, named(alloc, "X"), free(alloc));
     template(
         alloc,
         "Lists",
@@ -220,7 +188,7 @@ fn list_of_lists(alloc: Global) -> Mem<ToplevelDefinition> {
 
 // X ::= BOOLEAN
 fn x(alloc: Global) -> Mem<ToplevelDefinition> {
-    type_definition(alloc, "X", boolean_with(free(alloc)))
+    type_definition(alloc, "X", boolean(alloc))
 }
 
 // Narrow { X } ::= X (0..5)
@@ -229,44 +197,40 @@ fn narrow(alloc: Global) -> Mem<ToplevelDefinition> {
     template(alloc, "Narrow", dummy(alloc, "X"), ty)
 }
 
-fn x_and_value(alloc: Global) -> Mem<List<ParameterizationArgument>> {
-    with(
-        dummy(alloc, "X"),
-        value_dummy(alloc, name(alloc, "X"), "value"),
-    )
-}
-
 // At { X, X: value } ::= X (value)
 fn at(alloc: Global) -> Mem<ToplevelDefinition> {
     let ty = named_with(alloc, "X", alone(alloc, single(name_value(alloc, "value"))));
-    template(alloc, "At", x_and_value(alloc), ty)
+    template(
+        alloc,
+        "At",
+        with(
+            dummy(alloc, "X"),
+            value_dummy(alloc, named(alloc, "X"), "value"),
+        ),
+        ty,
+    )
 }
 
 fn of_types(alloc: Global) -> Mem<List<ToplevelDefinition>> {
-    let first = with(list_of(alloc, list(alloc)), outer(alloc));
-    let second = with(with(first, list_of_lists(alloc)), x(alloc));
-    with(with(second, narrow(alloc)), at(alloc))
+    // Outer { X } ::= List { X }
+    let outer = template(
+        alloc,
+        "Outer",
+        dummy(alloc, "X"),
+        of_type(alloc, "List", named(alloc, "X")),
+    );
+    let definitions = with(
+        with(
+            with(list_of(alloc, list(alloc)), outer),
+            list_of_lists(alloc),
+        ),
+        x(alloc),
+    );
+    with(with(definitions, narrow(alloc)), at(alloc))
 }
 
 fn says_of_types(alloc: Global, ty: Mem<ASN1Type>, tree: Mem<Tree>, answer: Answer) -> Mem<bool> {
     crate::judging::says(alloc, of_types(alloc), ty, tree, answer)
-}
-
-fn boolean(alloc: Global) -> Mem<ASN1Type> {
-    boolean_with(free(alloc))
-}
-
-fn truths(alloc: Global) -> Mem<Tree> {
-    one_element(alloc, truth(true))
-}
-
-fn numbers(alloc: Global) -> Mem<Tree> {
-    one_element(alloc, whole(1))
-}
-
-// List { NULL }, read as a value
-fn list_of_null(alloc: Global) -> Mem<ASN1Type> {
-    of(alloc, "List", value_argument(null_value()))
 }
 
 // An argument is read in the scope of the reference: in `Outer` the name X is the dummy of `Outer`, and outside it is BOOLEAN.
@@ -278,64 +242,55 @@ fn arguments_that_are_types(rt: HostRuntime) {
             says_of_types(
                 alloc,
                 of_type(alloc, "List", boolean(alloc)),
-                truths(alloc),
+                one_element(alloc, truth(true)),
                 Answer::Yes
             ),
             says_of_types(
                 alloc,
                 of_type(alloc, "List", boolean(alloc)),
-                numbers(alloc),
+                one_element(alloc, whole(1)),
                 Answer::No
             ),
             says_of_types(
                 alloc,
-                of_type(alloc, "List", name(alloc, "X")),
-                truths(alloc),
+                of_type(alloc, "List", named(alloc, "X")),
+                one_element(alloc, truth(true)),
                 Answer::Yes
             ),
             says_of_types(
                 alloc,
                 of_type(alloc, "Outer", integer(alloc)),
-                numbers(alloc),
+                one_element(alloc, whole(1)),
                 Answer::Yes
             ),
             says_of_types(
                 alloc,
                 of_type(alloc, "Outer", integer(alloc)),
-                truths(alloc),
+                one_element(alloc, truth(true)),
                 Answer::No
             ),
             says_of_types(
                 alloc,
-                of_type(alloc, "Outer", name(alloc, "X")),
-                truths(alloc),
+                of_type(alloc, "Outer", named(alloc, "X")),
+                one_element(alloc, truth(true)),
                 Answer::Yes
             ),
+            // List { NULL }, read as a value
             says_of_types(
                 alloc,
-                list_of_null(alloc),
+                of(alloc, "List", value_argument(null_value())),
                 one_element(alloc, nothing()),
                 Answer::Yes
             ),
             says_of_types(
                 alloc,
                 of_number(alloc, "List", 5),
-                numbers(alloc),
+                one_element(alloc, whole(1)),
                 Answer::Unknown
             ),
         ]),
         None
     );
-}
-
-// INTEGER (3..9)
-fn three_to_nine(alloc: Global) -> Mem<ASN1Type> {
-    integer_with(alone(alloc, range(3, 9)))
-}
-
-// Narrow { INTEGER (3..9) }
-fn narrowed(alloc: Global) -> Mem<ASN1Type> {
-    of_type(alloc, "Narrow", three_to_nine(alloc))
 }
 
 // At { INTEGER, 5 }
@@ -348,31 +303,28 @@ fn at_five(alloc: Global) -> Mem<ASN1Type> {
     )
 }
 
-// Lists { INTEGER }
-fn lists_of_numbers(alloc: Global) -> Mem<ASN1Type> {
-    of_type(alloc, "Lists", integer(alloc))
-}
-
 #[test]
 fn constraints_and_governors_on_dummies(rt: HostRuntime) {
     let alloc = rt.alloc();
     assert_eq!(rt;
         first_wrong(&[
-            says_of_types(alloc, narrowed(alloc), whole(4), Answer::Yes),
-            says_of_types(alloc, narrowed(alloc), whole(2), Answer::No),
-            says_of_types(alloc, narrowed(alloc), whole(7), Answer::No),
+            // Narrow { INTEGER (3..9) }
+            says_of_types(alloc, of_type(alloc, "Narrow", number_in(alloc, range(3, 9))), whole(4), Answer::Yes),
+            says_of_types(alloc, of_type(alloc, "Narrow", number_in(alloc, range(3, 9))), whole(2), Answer::No),
+            says_of_types(alloc, of_type(alloc, "Narrow", number_in(alloc, range(3, 9))), whole(7), Answer::No),
             says_of_types(alloc, at_five(alloc), whole(5), Answer::Yes),
             says_of_types(alloc, at_five(alloc), whole(6), Answer::No),
+            // Lists { INTEGER }
             says_of_types(
                 alloc,
-                lists_of_numbers(alloc),
-                one_element(alloc, numbers(alloc)),
+                of_type(alloc, "Lists", integer(alloc)),
+                one_element(alloc, one_element(alloc, whole(1))),
                 Answer::Yes
             ),
             says_of_types(
                 alloc,
-                lists_of_numbers(alloc),
-                one_element(alloc, truths(alloc)),
+                of_type(alloc, "Lists", integer(alloc)),
+                one_element(alloc, one_element(alloc, truth(true))),
                 Answer::No
             ),
         ]),
@@ -386,9 +338,9 @@ fn constraints_and_governors_on_dummies(rt: HostRuntime) {
 fn members_of_t(alloc: Global) -> Mem<List<SequenceOrSetMember>> {
     let first = list_of(
         alloc,
-        required(alloc, "a", of_type(alloc, "U", name(alloc, "X"))),
+        required(alloc, "a", of_type(alloc, "U", named(alloc, "X"))),
     );
-    with(first, required(alloc, "b", name(alloc, "X")))
+    with(first, required(alloc, "b", named(alloc, "X")))
 }
 
 // T { X } ::= SEQUENCE { a U { X }, b X }
@@ -399,7 +351,7 @@ fn t(alloc: Global) -> Mem<ToplevelDefinition> {
 
 // U { Y } ::= SEQUENCE { c Y }
 fn u(alloc: Global) -> Mem<ToplevelDefinition> {
-    let members = list_of(alloc, required(alloc, "c", name(alloc, "Y")));
+    let members = list_of(alloc, required(alloc, "c", named(alloc, "Y")));
     template(
         alloc,
         "U",
@@ -410,14 +362,14 @@ fn u(alloc: Global) -> Mem<ToplevelDefinition> {
 
 // A ::= SEQUENCE { l List { A } OPTIONAL }
 fn recursive(alloc: Global) -> Mem<ToplevelDefinition> {
-    let lists = of_type(alloc, "List", name(alloc, "A"));
+    let lists = of_type(alloc, "List", named(alloc, "A"));
     let members = list_of(alloc, optional(alloc, "l", lists));
     type_definition(alloc, "A", sequence_with(alloc, members, free(alloc)))
 }
 
 // V { X } ::= SEQUENCE { t V { X } OPTIONAL }
 fn v(alloc: Global) -> Mem<ToplevelDefinition> {
-    let again = of_type(alloc, "V", name(alloc, "X"));
+    let again = of_type(alloc, "V", named(alloc, "X"));
     let members = list_of(alloc, optional(alloc, "t", again));
     template(
         alloc,
@@ -428,18 +380,15 @@ fn v(alloc: Global) -> Mem<ToplevelDefinition> {
 }
 
 fn nested(alloc: Global) -> Mem<List<ToplevelDefinition>> {
-    let first = with(list_of(alloc, t(alloc)), u(alloc));
-    let second = with(with(first, x(alloc)), list(alloc));
-    with(with(second, recursive(alloc)), v(alloc))
+    let definitions = with(
+        with(with(list_of(alloc, t(alloc)), u(alloc)), x(alloc)),
+        list(alloc),
+    );
+    with(with(definitions, recursive(alloc)), v(alloc))
 }
 
 fn says_of_nested(alloc: Global, ty: Mem<ASN1Type>, tree: Mem<Tree>, answer: Answer) -> Mem<bool> {
     crate::judging::says(alloc, nested(alloc), ty, tree, answer)
-}
-
-// T { X }, where X is BOOLEAN
-fn t_of_x(alloc: Global) -> Mem<ASN1Type> {
-    of_type(alloc, "T", name(alloc, "X"))
 }
 
 fn c(alloc: Global, tree: Mem<Tree>) -> Mem<Tree> {
@@ -450,19 +399,10 @@ fn c_and_b(alloc: Global, inner: Mem<Tree>) -> Mem<Tree> {
     fields_of_two(alloc, "a", c(alloc, inner), "b", truth(false))
 }
 
-// A list of one A without a list.
-fn list_of_one_a(alloc: Global) -> Mem<Tree> {
-    fields_of_one(alloc, "l", one_element(alloc, no_fields(alloc)))
-}
-
 // A list of one A whose list has a number.
 fn list_of_a_number(alloc: Global) -> Mem<Tree> {
     let inner = fields_of_one(alloc, "l", one_element(alloc, whole(1)));
     fields_of_one(alloc, "l", one_element(alloc, inner))
-}
-
-fn v_in_v(alloc: Global) -> Mem<Tree> {
-    fields_of_one(alloc, "t", fields_of_one(alloc, "t", no_fields(alloc)))
 }
 
 #[test]
@@ -470,25 +410,27 @@ fn templates_in_templates(rt: HostRuntime) {
     let alloc = rt.alloc();
     assert_eq!(rt;
         first_wrong(&[
+            // T { X }, where X is BOOLEAN
             says_of_nested(
                 alloc,
-                t_of_x(alloc),
+                of_type(alloc, "T", named(alloc, "X")),
                 c_and_b(alloc, truth(true)),
                 Answer::Yes
             ),
-            says_of_nested(alloc, t_of_x(alloc), c_and_b(alloc, whole(1)), Answer::No),
+            says_of_nested(alloc, of_type(alloc, "T", named(alloc, "X")), c_and_b(alloc, whole(1)), Answer::No),
             says_of_nested(
                 alloc,
                 of_type(alloc, "T", null()),
                 c_and_b(alloc, nothing()),
                 Answer::No
             ),
-            says_of_nested(alloc, name(alloc, "A"), list_of_one_a(alloc), Answer::Yes),
-            says_of_nested(alloc, name(alloc, "A"), list_of_a_number(alloc), Answer::No),
+            // A list of one A without a list.
+            says_of_nested(alloc, named(alloc, "A"), fields_of_one(alloc, "l", one_element(alloc, no_fields(alloc))), Answer::Yes),
+            says_of_nested(alloc, named(alloc, "A"), list_of_a_number(alloc), Answer::No),
             says_of_nested(
                 alloc,
                 of_type(alloc, "V", null()),
-                v_in_v(alloc),
+                fields_of_one(alloc, "t", fields_of_one(alloc, "t", no_fields(alloc))),
                 Answer::Yes
             ),
             says_of_nested(
@@ -518,7 +460,7 @@ fn letters(alloc: Global) -> Mem<ToplevelDefinition> {
 
 // One { INTEGER: value } ::= INTEGER (value)
 fn one_value(alloc: Global) -> Mem<ToplevelDefinition> {
-    let ty = integer_with(alone(alloc, single(name_value(alloc, "value"))));
+    let ty = number_in(alloc, single(name_value(alloc, "value")));
     template(alloc, "One", number_dummy(alloc, "value"), ty)
 }
 
@@ -531,7 +473,7 @@ fn lower_and_flag(alloc: Global) -> Mem<List<ParameterizationArgument>> {
 // int-value INTEGER (lower..12), bool-value BOOLEAN DEFAULT flag
 fn int_and_bool(alloc: Global) -> Mem<List<SequenceOrSetMember>> {
     let ends = between(name_value(alloc, "lower"), number(12));
-    let first = required(alloc, "int-value", integer_with(alone(alloc, ends)));
+    let first = required(alloc, "int-value", number_in(alloc, ends));
     let flag = name_value(alloc, "flag");
     with(
         list_of(alloc, first),
@@ -593,16 +535,6 @@ fn says_of_others(alloc: Global, ty: Mem<ASN1Type>, tree: Mem<Tree>, answer: Ans
     crate::judging::says(alloc, of_others(alloc), ty, tree, answer)
 }
 
-// Letters { "abc" }
-fn abc(alloc: Global) -> Mem<ASN1Type> {
-    of(alloc, "Letters", value_argument(text_value(alloc, "abc")))
-}
-
-// One { ALL }
-fn one_of_all(alloc: Global) -> Mem<ASN1Type> {
-    of(alloc, "One", value_argument(all()))
-}
-
 // Small { 7 } (5): the constraint stands behind the argument list
 fn small_and_five(alloc: Global) -> Mem<ASN1Type> {
     let list = arguments(alloc, list_of(alloc, value_argument(number(7))));
@@ -614,11 +546,13 @@ fn other_places_of_dummies(rt: HostRuntime) {
     let alloc = rt.alloc();
     assert_eq!(rt;
         first_wrong(&[
-            says_of_others(alloc, abc(alloc), text(alloc, "cab"), Answer::Yes),
-            says_of_others(alloc, abc(alloc), text(alloc, "abd"), Answer::No),
+            // Letters { "abc" }
+            says_of_others(alloc, of(alloc, "Letters", value_argument(text_value(alloc, "abc"))), text(alloc, "cab"), Answer::Yes),
+            says_of_others(alloc, of(alloc, "Letters", value_argument(text_value(alloc, "abc"))), text(alloc, "abd"), Answer::No),
             says_of_others(alloc, of_number(alloc, "One", 5), whole(5), Answer::Yes),
             says_of_others(alloc, of_number(alloc, "One", 5), whole(6), Answer::No),
-            says_of_others(alloc, one_of_all(alloc), whole(6), Answer::Yes),
+            // One { ALL }
+            says_of_others(alloc, of(alloc, "One", value_argument(all())), whole(6), Answer::Yes),
             says_of_others(alloc, small_and_five(alloc), whole(5), Answer::Yes),
             says_of_others(alloc, small_and_five(alloc), whole(6), Answer::No),
         ]),

@@ -1,5 +1,6 @@
 //! Types with constraints, each made of its parts (X.680 clause 17).
 
+use crate::constraints::alone;
 use crate::pairs::{both, boxed};
 use asn_memory::{List, Mem, Text};
 use asn_tree::{
@@ -7,7 +8,7 @@ use asn_tree::{
     ChoiceOption, ChoiceSelectionType, Constraint, DeclarationElsewhere, DistinguishedValue,
     Enumeral, Enumerated, GeneralizedTime, InformationObjectFieldReference, Integer,
     ObjectFieldIdentifier, ObjectIdentifier, OctetString, Real, SequenceOrSet, SequenceOrSetMember,
-    SequenceOrSetOf, Time, UTCTime,
+    SequenceOrSetOf, SubtypeElement, Time, UTCTime,
 };
 use std::alloc::Global;
 
@@ -36,6 +37,21 @@ pub fn integer_with(constraints: Mem<List<Constraint>>) -> Mem<ASN1Type> {
         constraints: constraints?,
         distinguished_values: None,
     }))
+}
+
+/// INTEGER.
+pub fn integer(alloc: Global) -> Mem<ASN1Type> {
+    integer_with(free(alloc))
+}
+
+/// BOOLEAN.
+pub fn boolean(alloc: Global) -> Mem<ASN1Type> {
+    boolean_with(free(alloc))
+}
+
+/// INTEGER (element).
+pub fn number_in(alloc: Global, element: Mem<SubtypeElement>) -> Mem<ASN1Type> {
+    integer_with(alone(alloc, element))
 }
 
 /// INTEGER with named numbers.
