@@ -5,7 +5,7 @@ use Rattle.asn_guards.specs.Lexical.{in_class, first_in, is_blank}
 use Rattle.asn_guards.specs.declared.asked.ByteClass.TheVariants.{Blank, LineFeed}
 use Rattle.asn_guards.specs.declared.asked.ByteClass.{ByteClass}
 use Rattle.asn_guards.specs.Guards.{Place, within, in_line, half, begins, onward, is_outside, bare_from}
-use Rattle.asn_guards.specs.Sizes.{outside_from, starts_bare}
+use Rattle.asn_guards.specs.Outside.{outside_from, starts_bare}
 
 -- A mark of two bytes leads to a place.
 marked : (p q : Place) (bs : List ℕ) (x y : ℕ) → begins (x ∷ y ∷ []) bs ≡ true → onward p bs ≡ half q → is_outside p bs ≡ false → outside_from p bs ≡ outside_from q (drop 2 bs)

@@ -3,8 +3,8 @@ use Rattle.std.proofs.Common.{◌≡◌, SFits, ℕ, ◌^◌, ◌<◌, List, [],
 use Rattle.std.specs.Prelude.{⊤, ◌-◌, nat_eq, nat_lt, nat_le, ◌&&◌, if◌then◌else◌, ◌↔◌}
 use Rattle.std.specs.Int.{w128}
 use Rattle.std.proofs.lemmas.Bool.Decides.{Decides-ltb, nat_tests}
-use Rattle.asn_numbers.specs.Enumeration.{has, written, AreNumbers, AreOfAdditions, AreOfRoot, Numbered, NumbersPass, SomePasses}
-use Rattle.asn_numbers.specs.inner.Counting.{IsGiven, IsLeastFrom, Passes, from_above, from_behind, if_fits}
+use Rattle.asn_numbers.specs.Enumeration.{has, written, AreNumbers, AreOfAdditions, AreOfRoot, Numbered, NumbersPass, SomePasses, from_above, if_fits}
+use Rattle.asn_numbers.specs.inner.Counting.{IsGiven, IsLeastFrom, Passes, from_behind}
 use Rattle.asn_numbers.proofs.Counting.{Sofar, additions_pass, begun, finished, fit_together, found, passed, root_passes, stepped, stopped}
 use Rattle.asn_numbers.proofs.Distinct.{none_pass}
 use Rattle.asn_guards.specs.Lexical.{in_class}

@@ -8,13 +8,12 @@ use Rattle.std.proofs.lemmas.Bool.{cases_lt}
 use Rattle.std.proofs.lemmas.Bool.Decides.{Decides-eqb, Decides-int_eq, Decides-ltb}
 use Rattle.std.proofs.lemmas.Int.{ints}
 use Rattle.std.proofs.lemmas.Map.Steps.{le-length_from_below}
-use Rattle.asn_numbers.specs.Enumeration.{written}
-use Rattle.asn_numbers.specs.inner.Counting.{from_above, if_fits}
+use Rattle.asn_numbers.specs.Enumeration.{written, from_above, if_fits}
 use Rattle.asn_guards.specs.Lexical.{in_class}
 use Rattle.asn_guards.specs.declared.asked.ByteClass.TheVariants.{Letter}
 use Rattle.asn_guards.specs.Guards.{Place, within, onward, is_outside, bare}
 use Rattle.asn_guards.specs.Enumerations.{added_items, additions_fit, at_number, behind_name, fit_behind, goes_on, in_parentheses, is_among, items_from, least_free, numbers_fit, past_from, put_before, root_items, root_numbers}
-use Rattle.asn_guards.specs.Sizes.{is_far}
+use Rattle.asn_guards.specs.inner.Sizes.{is_far}
 use Rattle.asn_guards.proofs.Numbered.{least}
 use Rattle.asn_guards.proofs.Booleans.{and_both, or_either}
 

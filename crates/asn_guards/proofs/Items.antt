@@ -5,7 +5,7 @@ use Rattle.std.proofs.lemmas.Bool.Decides.{Decides-eqb, nat_tests}
 use Rattle.asn_guards.specs.Lexical.{between, in_class, is_alnum, is_blank, first_in}
 use Rattle.asn_guards.specs.declared.asked.ByteClass.TheVariants.{Blank, Letter}
 use Rattle.asn_guards.specs.Guards.{Place, within, begins, onward, is_outside, bare}
-use Rattle.asn_guards.specs.Sizes.{outside_from, starts_bare}
+use Rattle.asn_guards.specs.Outside.{outside_from, starts_bare}
 use Rattle.asn_guards.specs.Enumerations.{behind_name, goes_on, in_parentheses, items_from, past_from}
 use Rattle.asn_guards.proofs.Bare.{outside_starts, outside_stays, passes_over}
 

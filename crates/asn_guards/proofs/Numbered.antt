@@ -4,9 +4,8 @@ use Rattle.std.specs.Prelude.{⊤, nat_eq, nat_lt, ◌||◌, if◌then◌else◌
 use Rattle.std.specs.Ordering.{int_eq}
 use Rattle.std.proofs.lemmas.Bool.Decides.{Decides-eqb, Decides-int_eq, Decides-ltb, nat_tests}
 use Rattle.std.proofs.lemmas.Int.{ints}
-use Rattle.asn_numbers.specs.Enumeration.{written}
-use Rattle.asn_numbers.specs.inner.Counting.{from_above, if_fits}
-use Rattle.asn_guards.specs.Sizes.{is_taken, root_end}
+use Rattle.asn_numbers.specs.Enumeration.{written, from_above, if_fits}
+use Rattle.asn_guards.specs.inner.Sizes.{is_taken, root_end}
 use Rattle.asn_guards.specs.Enumerations.{additions_fit, at_number, behind_item, first_free, fit_behind, given, is_among, least_free, put_before, root_numbers}
 
 -- The least number that is free.

@@ -6,7 +6,7 @@ use Rattle.std.proofs.lemmas.Bool.Decides.{Decides-ltb, nat_tests}
 use Rattle.std.specs.Int.{w128}
 use Rattle.asn_guards.specs.Lexical.{is_digit}
 use Rattle.asn_guards.specs.Guards.{is_empty, are_digits, decimal, is_negative, unsigned, spelled, fitting, integer, number, natural}
-use Rattle.asn_guards.specs.Sizes.{at_some, lengthened_by, sized, below, narrowed}
+use Rattle.asn_guards.specs.inner.Sizes.{at_some, lengthened_by, sized, below, narrowed}
 
 -- a digit behind a number
 abbrev pushed : ℕ → ℕ → ℕ

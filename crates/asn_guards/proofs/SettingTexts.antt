@@ -19,7 +19,7 @@ use Rattle.asn_settings.specs.declared.settings.RecurrenceSettings.TheVariants a
 use Rattle.asn_guards.proofs.Booleans.{and_both}
 use Rattle.asn_guards.specs.Lexical.{is_digit}
 use Rattle.asn_guards.specs.Guards.{is_empty, are_digits, decimal, natural}
-use Rattle.asn_guards.specs.Sizes.{behind_word, is_numeral}
+use Rattle.asn_guards.specs.inner.Sizes.{behind_word, is_numeral}
 
 -- no word stands where nothing does
 pub no_word : (word : List ℕ) → is_empty word ≡ false → behind_word word [] ≡ None

@@ -2,7 +2,8 @@
 use Rattle.std.specs.Prelude.{ℕ, List, Bool, true, ◌||◌, not}
 use Rattle.std.specs.Option.{is_some}
 use Rattle.asn_guards.specs.Lexical.{keywords}
-use Rattle.asn_guards.specs.Guards.{bare, among, names_class, natural, integer, is_range, is_base_of, is_real, is_character, is_setting, is_time, has_labels}
+use Rattle.asn_guards.specs.Guards.{bare, among, names_class, natural, integer, is_base_of, is_real, is_character, is_setting, is_time, has_labels}
+use Rattle.asn_guards.specs.Ordered.{is_range}
 use Rattle.asn_guards.specs.Enumerations.{numbers_fit}
 use Rattle.asn_guards.specs.declared.asked.Guard.{Guard}
 use Rattle.asn_guards.specs.declared.asked.Guard.TheVariants.{NoKeyword, NamesClass, FitsU64, FitsU128, FitsI128, FitsI32, IsOrdered, FitsU8, IsBase, FitsReal, IsCharacter, IsSetting, IsTime, HasLabels, NumbersFit}

@@ -1,7 +1,6 @@
 -- The items of an enumeration as its bytes tell them, and their numbers as far as 128 bits go (X.680 clause 20).
 use Rattle.std.specs.Prelude.{◌≡◌, ◌↔◌, ℕ, zero, suc, ◌-◌, ◌^◌, List, [], ◌∷◌, Bool, true, false, ◌&&◌, ◌||◌, not, nat_eq, Option, Some, None, if◌then◌else◌, ℤ, pos}
-use Rattle.asn_numbers.specs.Enumeration.{has, written, NumbersPass}
-use Rattle.asn_numbers.specs.inner.Counting.{from_above, if_fits}
+use Rattle.asn_numbers.specs.Enumeration.{has, written, NumbersPass, from_above, if_fits}
 use Rattle.asn_guards.specs.Lexical.{in_class, is_alnum}
 use Rattle.asn_guards.specs.Guards.{Place, within, onward, is_outside, bare, before, number}
 use Rattle.asn_guards.specs.declared.asked.ByteClass.TheVariants.{Letter}

@@ -85,11 +85,6 @@ number bs = integer 127 bs
 abbrev pub natural : ℕ → List ℕ → Option ℕ
 natural bits bs = if are_digits bs && nat_lt (decimal bs) (2 ^ bits) then Some (decimal bs) else None
 
-abbrev pub at_most : Option ℤ → Option ℤ → Bool
-at_most (Some low) (Some high) = int_le low high
-at_most (Some low) None = false
-at_most None high = false
-
 -- the bytes before the first of this byte, and those behind it
 abbrev pub before : ℕ → List ℕ → List ℕ
 before mark [] = []
@@ -98,10 +93,6 @@ before mark (b ∷ bs) = if nat_eq b mark then [] else b ∷ before mark bs
 abbrev pub behind : ℕ → List ℕ → List ℕ
 behind mark [] = []
 behind mark (b ∷ bs) = if nat_eq b mark then bs else behind mark bs
-
--- a number, "..", and a number that is no smaller (X.680 51.4)
-abbrev pub is_range : List ℕ → Bool
-is_range bs = at_most (number (before 46 bs)) (number (behind 46 (behind 46 bs))) && is_empty (before 46 (behind 46 bs))
 
 -- the two reserved words that name classes (X.681 Annex A and B)
 abbrev pub names_class : List ℕ → Bool

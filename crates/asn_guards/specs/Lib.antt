@@ -1,5 +1,7 @@
 pub mod Lexical
 pub mod Guards
+pub mod Ordered
 pub mod Enumerations
 pub mod Allows
-pub mod Sizes
+pub mod Outside
+pub mod inner

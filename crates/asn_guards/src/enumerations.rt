@@ -6,12 +6,11 @@
 ghost use Rattle.std.specs.Prelude.{◌≡◌, ◌<◌, ◌≤◌, ◌^◌, ◌||◌, pos, nat_eq, ◌∷◌, [], length, IfSome};
 ghost use Rattle.std.specs.List.{list_all};
 ghost use Rattle.std.specs.Option.{MatchOption};
-ghost use Rattle.asn_numbers.specs.Enumeration.{has, written};
-ghost use Rattle.asn_numbers.specs.inner.Counting.{from_above, if_fits};
+ghost use Rattle.asn_numbers.specs.Enumeration.{has, written, from_above, if_fits};
 ghost use Rattle.asn_guards.specs.Guards.{bare};
 ghost use Rattle.asn_guards.specs.Lexical.{is_alnum};
 ghost use Rattle.asn_guards.specs.Enumerations.{FitIsExact, additions_fit, behind_item, behind_name, given, in_parentheses, items, least_free, numbers_fit, past};
-ghost use Rattle.asn_guards.specs.Sizes.{is_far, is_taken, root_end};
+ghost use Rattle.asn_guards.specs.inner.Sizes.{is_far, is_taken, root_end};
 
 use crate::asked::ByteClass;
 use crate::gaps::next_bare;

@@ -2,11 +2,11 @@
 //!
 //! The guards, the walk over an enumeration's items and the readers above call `next_bare`. No memory is taken.
 
-ghost use Rattle.std.specs.Prelude.{◌≡◌, ◌≤◌, ◌<◌, length, drop, IfSome, true, List, [], ◌∷◌};
+ghost use Rattle.std.specs.Prelude.{◌≡◌, ◌≤◌, ◌<◌, length, drop, IfSome, true, [], ◌∷◌};
 ghost use Rattle.std.specs.Option.{MatchOption};
 ghost use Rattle.asn_guards.specs.Guards.{bare, in_line, within};
 ghost use Rattle.asn_guards.specs.Lexical.{is_blank};
-ghost use Rattle.asn_guards.specs.Sizes.{outside, outside_from, starts_bare};
+ghost use Rattle.asn_guards.specs.Outside.{outside, outside_from, starts_bare};
 
 use crate::asked::ByteClass;
 use crate::lexical::is_in_class;

@@ -3,19 +3,20 @@
 //! Both interpreters call `is_allowed`. No memory is taken: blanks and comments are stepped over where they lie, by
 //! `gaps.rt`.
 
-ghost use Rattle.std.specs.Prelude.{◌≡◌, ◌<◌, ◌^◌, true, false, not, ◌&&◌, nat_eq, nat_lt, if◌then◌else◌, pos, neg_ℤ, ◌+ℤ◌, ◌≤ℤ◌, ◌<ℤ◌, int_le, int_lt, length, map, codes, IfSome, ◌∷◌, []};
+ghost use Rattle.std.specs.Prelude.{◌≡◌, ◌<◌, ◌^◌, true, false, not, ◌&&◌, nat_eq, nat_lt, if◌then◌else◌, pos, neg_ℤ, ◌+ℤ◌, ◌≤ℤ◌, ◌<ℤ◌, int_le, int_lt, length, map, IfSome, ◌∷◌, []};
 ghost use Rattle.std.specs.Option.{MatchOption, is_some};
 ghost use Rattle.std.specs.List.{list_any};
 ghost use Rattle.std.specs.Cmp.Lexicographic.{pointwise};
 ghost use Rattle.asn_guards.specs.Lexical.{is_digit, keywords};
-ghost use Rattle.asn_guards.specs.Guards.{bare, among, is_empty, is_negative, unsigned, fitting, integer, number, natural, names_class, at_most, before, behind, is_range, is_exponent_mark, mantissa, behind_exponent_mark, exponent, fits_less, is_real, is_base_of, is_scalar, with_octet, is_scalar_of, is_character, is_setting, is_time, has_labels};
+ghost use Rattle.asn_guards.specs.Guards.{bare, among, is_empty, is_negative, fitting, integer, number, natural, names_class, before, behind, is_exponent_mark, mantissa, behind_exponent_mark, exponent, fits_less, is_real, is_base_of, is_scalar, with_octet, is_scalar_of, is_character, is_setting, is_time, has_labels};
 ghost use Rattle.asn_guards.specs.Allows.{allows};
-ghost use Rattle.asn_guards.specs.Sizes.{lengthened, lengthened_by, sized, below, narrowed, at_some, part, with_sign};
+ghost use Rattle.asn_guards.specs.inner.Sizes.{lengthened, lengthened_by, below, at_some, part, with_sign};
 
 use crate::asked::{ByteClass, Guard};
 use crate::enumerations::numbers_fit;
 use crate::gaps::{behind_gap, next_bare};
 use crate::lexical::is_in_class;
+use crate::ordered::is_ordered;
 use crate::setting_pairs::is_setting;
 
 /// Reserved words, none of which can be the name of a type. A space stands between two that go together.
@@ -204,7 +205,7 @@ pub(crate) enum Stretch {
 }
 
 // The first byte of the stretch, and what follows it.
-fn next_in(bytes: &[u8], stretch: Stretch) -> Option<(u8, &[u8])>
+pub(crate) fn next_in(bytes: &[u8], stretch: Stretch) -> Option<(u8, &[u8])>
     ensures value { MatchOption result (part stretch (bare bytes.now) ≡ []) (λ next. part stretch (bare bytes.now) ≡ next.0 ∷ part stretch (bare next.1.now)) }
     ensures shorter { IfSome result (λ next. length next.1.now < length bytes.now) }
 {
@@ -339,29 +340,6 @@ fn with_digit(value: u128, digit: u8) -> Option<u128>
         }
     } else {
         None
-    }
-}
-
-// Whether the bytes outside blanks and comments are a number, `..`, and a number that is no smaller.
-fn is_ordered(taken: &[u8]) -> bool
-    ensures { result ≡ is_range (bare taken.now) }
-{
-    let rest = behind_first(taken, b'.');
-    is_at_most(
-        number_of(taken, Stretch::Before(b'.')),
-        whole_number(behind_first(rest, b'.')),
-    ) && next_in(rest, Stretch::Before(b'.')).is_none()
-}
-
-fn is_at_most(low: Option<i128>, high: Option<i128>) -> bool
-    ensures { result ≡ at_most low high }
-{
-    match low {
-        None => false,
-        Some(low) => match high {
-            None => false,
-            Some(high) => low <= high,
-        },
     }
 }
 

@@ -2,9 +2,9 @@
 //!
 //! The lowest file of this crate; the guards and both interpreters call it.
 
-ghost use Rattle.std.specs.Prelude.{◌≡◌, ◌≤◌, ◌+◌, length, drop, IsTrue, nat_eq};
+ghost use Rattle.std.specs.Prelude.{◌≡◌, ◌≤◌, length, IsTrue, nat_eq};
 ghost use Rattle.std.specs.List.{list_any};
-ghost use Rattle.asn_guards.specs.Lexical.{first_in, in_class, is_alnum, sight, stands, width, word_ends};
+ghost use Rattle.asn_guards.specs.Lexical.{in_class, is_alnum, sight, stands, width, word_ends};
 
 use crate::asked::{ByteClass, Sight};
 

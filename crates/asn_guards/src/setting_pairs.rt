@@ -10,7 +10,7 @@ ghost use Rattle.std.specs.Option.{MatchOption, is_some};
 ghost use Rattle.std.specs.Str.{bytes_eq};
 ghost use Rattle.asn_settings.specs.Settings.{basic_of, date_of, year_of, time_of, clock_of, interval_of, point_of, recurrence_of, midnight_of, number_behind};
 ghost use Rattle.asn_guards.specs.Guards.{bare, before, is_setting};
-ghost use Rattle.asn_guards.specs.Sizes.{behind_word};
+ghost use Rattle.asn_guards.specs.inner.Sizes.{behind_word};
 
 use crate::gaps::next_bare;
 use crate::guards::{Stretch, behind_first, fits_u64, is_one_of, is_word};

@@ -7,7 +7,7 @@ use Rattle.std.proofs.lemmas.Bool.{leb-true}
 use Rattle.std.proofs.lemmas.Bool.Decides.{Decides-eqb, nat_tests}
 use Rattle.asn_guards.specs.Lexical.{is_blank, is_digit}
 use Rattle.asn_guards.specs.Guards.{are_digits, bare, bare_from, begins, decimal, fitting, integer, is_empty, is_outside, natural, number, spelled, unsigned, within}
-use Rattle.asn_guards.specs.Sizes.{starts_bare}
+use Rattle.asn_guards.specs.Outside.{starts_bare}
 use Rattle.asn_guards.proofs.Bare.{bare_byte}
 
 both_true : (s t : Bool) → (s && t) ≡ true → (s ≡ true) × (t ≡ true)

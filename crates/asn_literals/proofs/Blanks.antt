@@ -9,7 +9,7 @@ use Rattle.asn_guards.specs.Lexical.{first_in, is_blank, stands, width}
 use Rattle.asn_rules.specs.LexicalRules.{lexical_rules_before}
 use Rattle.asn_rules.specs.Runs.{Ending, ends, fails, Runs, sees, seq_ends, seq_fails, choice_first, choice_second, many_turn, many_idle, many_fails, never_ends, never_fails}
 use Rattle.asn_guards.specs.Guards.{Place, within, in_line, begins}
-use Rattle.asn_guards.specs.Sizes.{outside_from}
+use Rattle.asn_guards.specs.Outside.{outside_from}
 use Rattle.asn_rules.specs.Whole.{whole_rules}
 use Rattle.asn_guards.specs.declared.asked.ByteClass.TheVariants.{Any, Blank, LineFeed}
 use Rattle.asn_guards.proofs.Bare.{blank_goes_on, block_closes, block_goes_on, block_opens, comment_opens, line_breaks, line_closes, line_goes_on, line_opens, outside_none}

@@ -5,7 +5,7 @@ use Rattle.asn_rules.specs.Children.{StandsBy}
 use Rattle.asn_rules.specs.Expression.{rule}
 use Rattle.asn_rules.specs.Nodes.{child_of, the}
 use Rattle.asn_rules.specs.Runs.{Runs, ends}
-use Rattle.asn_guards.specs.Sizes.{outside}
+use Rattle.asn_guards.specs.Outside.{outside}
 use Rattle.asn_rules.specs.Whole.{whole_rules}
 use Rattle.asn_rules.specs.declared.names.TheConstants.{QUOTED_BODY, SP, TIME_CHARS}
 use Rattle.asn_rules.specs.declared.node.Node.{Node}

@@ -6,8 +6,8 @@ use Rattle.std.proofs.lemmas.Bool.Decides.{Decides-int_eq, nat_tests}
 use Rattle.std.proofs.lemmas.Int.{ints}
 use Rattle.asn_numbers.specs.declared.enumeration.Part.{Part}
 use Rattle.asn_numbers.specs.declared.enumeration.Part.TheVariants.{Root, Additions}
-use Rattle.asn_numbers.specs.Enumeration.{has, written, IsAbove, IsFree, IsNext, IsNumberOf, behind, Numbered, AreOfRoot, SomePasses, NumbersPass}
-use Rattle.asn_numbers.specs.inner.Counting.{IsLeastFrom, if_fits, from_above, from_behind, IsGiven, Passes}
+use Rattle.asn_numbers.specs.Enumeration.{has, written, IsAbove, IsFree, IsNext, IsNumberOf, behind, Numbered, AreOfRoot, SomePasses, NumbersPass, if_fits, from_above}
+use Rattle.asn_numbers.specs.inner.Counting.{IsLeastFrom, from_behind, IsGiven, Passes}
 
 -- Where a number is above all earlier ones: from `from` on.
 pub record Floor (earlier : List ℤ) (from : ℕ) : Type 0 where

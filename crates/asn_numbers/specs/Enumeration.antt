@@ -1,5 +1,5 @@
 -- The numbers of an enumeration's items (X.680 clause 20). An item is the number written after its name, if any.
-use Rattle.std.specs.Prelude.{◌≡◌, ◌^◌, ◌⊎◌, ℤ, pos, ◌≤ℤ◌, ◌<ℤ◌, Bool, false, List, [], ◌∷◌, ◌++◌, Option, Some, None, ⊤}
+use Rattle.std.specs.Prelude.{◌≡◌, ℕ, ◌+◌, ◌^◌, nat_lt, max, ◌⊎◌, ℤ, pos, negsuc, ◌≤ℤ◌, ◌<ℤ◌, Bool, false, if◌then◌else◌, List, [], ◌∷◌, ◌++◌, Option, Some, None, ⊤}
 use Rattle.std.specs.List.{list_any}
 use Rattle.std.specs.Ordering.{int_eq}
 use Rattle.asn_numbers.specs.declared.enumeration.Part.{Part}
@@ -77,3 +77,12 @@ pub record NumbersPass (root additions : List (Option ℤ)) : Type 0 where
   pub numbers : List ℤ
   pub are_numbers : AreNumbers root additions numbers
   pub pass : SomePasses numbers
+
+-- the number, if it is one of 128 bits
+abbrev pub if_fits : ℕ → Option ℤ
+if_fits n = if nat_lt n (2 ^ 127) then Some (pos n) else None
+
+-- the least number that is neither negative nor below `from`, and above n
+abbrev pub from_above : ℕ → ℤ → ℕ
+from_above from (pos n) = max from (n + 1)
+from_above from (negsuc n) = from

@@ -1,7 +1,7 @@
 //! The numbers of an enumeration's items.
 
-ghost use Rattle.asn_numbers.specs.inner.Counting.{IsGiven, IsLeastFrom, Passes, from_above, from_behind, if_fits};
-ghost use Rattle.asn_numbers.specs.Enumeration.{AreNumbers, Numbered, NumbersPass, SomePasses, written};
+ghost use Rattle.asn_numbers.specs.inner.Counting.{IsGiven, IsLeastFrom, Passes, from_behind};
+ghost use Rattle.asn_numbers.specs.Enumeration.{from_above, if_fits, AreNumbers, Numbered, NumbersPass, SomePasses, written};
 ghost use Rattle.std.specs.Prelude.{◌≡◌, ◌↔◌, ℕ, [], IfOk, IfSome, IsNone, MatchOption};
 
 use crate::taken_numbers::TakenNumbers;

@@ -1,4 +1,4 @@
--- What readers ask of the table of the whole of ASN.1: computed from its rows.
+-- What readers ask of the table of the whole of ASN.1: computed from its rows. What is asked of types and headers is here for the readers to come.
 use Rattle.std.proofs.Common.{◌≡◌, ℕ, List, [], ◌∷◌, true, Some, None, refl}
 use Rattle.std.specs.Prelude.{nat_eq, not}
 use Rattle.asn_rules.specs.LexicalRules.{lexical_rules_before}

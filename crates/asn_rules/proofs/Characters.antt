@@ -16,7 +16,8 @@ use Rattle.asn_guards.specs.declared.asked.ByteClass.{ByteClass}
 use Rattle.asn_guards.specs.declared.asked.ByteClass.TheVariants.{Blank, Digit, Letter, Lower, Upper, Alnum, Cap, HexLetter, TimeMark, LabelMark, LineFeed, Any}
 use Rattle.asn_guards.specs.declared.asked.Guard.{Guard}
 use Rattle.asn_rules.proofs.Theory.{runs_lies}
-use Rattle.asn_rules.proofs.Total.{takes_byte, checked, and_both, or_either, moves}
+use Rattle.asn_rules.proofs.Total.{takes_byte, checked, moves}
+use Rattle.asn_guards.proofs.Booleans.{and_both, or_either}
 
 abbrev is_ascii : ℕ → Bool
 is_ascii b = nat_lt b 128

@@ -3,11 +3,12 @@ use Rattle.std.proofs.Common.{◌≡◌, ℕ, ◌<◌, ◌≤◌, List, [], ◌�
 use Rattle.std.specs.Prelude.{Bool, true, false, nat_lt}
 use Rattle.std.proofs.lemmas.Bool.Decides.{Decides-ltb}
 use Rattle.std.specs.Prelude.{Option, Some, None, IsSome}
-use Rattle.asn_rules.specs.Attempts.{Found, IsFollowed}
+use Rattle.asn_rules.specs.Attempts.{Found}
+use Rattle.asn_rules.specs.inner.Walks.{IsFollowed}
 use Rattle.asn_rules.specs.declared.due.DuePlace.{DuePlace}
 use Rattle.asn_rules.specs.Expression.{Expression, skip}
 use Rattle.asn_rules.specs.Runs.{Ending, ends, fails}
-use Rattle.asn_rules.specs.Answer.{answer, IsWithin}
+use Rattle.asn_rules.specs.inner.Answer.{answer, IsWithin}
 use Rattle.asn_rules.specs.Due.{Piece, optional, required, Comes, Stop, all_stand, lacks, Through, at_end, passing, missing, standing, IsDue, due_here, due_later}
 use Rattle.asn_rules.specs.declared.names.TheConstants.{SP}
 use Rattle.asn_rules.specs.declared.due.ModulePart.{ModulePart}

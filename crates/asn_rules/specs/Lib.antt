@@ -12,12 +12,11 @@ pub mod First
 pub mod Whole
 pub mod Grammar
 pub mod Runs
-pub mod Answer
 pub mod Derives
-pub mod Grown
 pub mod Nodes
 pub mod Valid
 pub mod Due
 pub mod Attempts
 pub mod RuleNames
 pub mod Children
+pub mod inner

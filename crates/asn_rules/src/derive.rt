@@ -6,8 +6,8 @@
 ghost use Rattle.std.specs.Prelude.{◌≡◌, ◌≤◌, ◌<◌, ◌+◌, length, IfOk};
 ghost use Rattle.asn_rules.specs.Runs.{seen};
 ghost use Rattle.asn_rules.specs.Expression.{expression, sight, seq, choice, many, guarded, rule};
-ghost use Rattle.asn_rules.specs.Answer.{answer};
-ghost use Rattle.asn_rules.specs.Grown.{grown, after, of_outcome, with_leaf, IsWithinGrowth};
+ghost use Rattle.asn_rules.specs.inner.Answer.{answer};
+ghost use Rattle.asn_rules.specs.inner.Grown.{grown, after, of_outcome, with_leaf, IsWithinGrowth};
 ghost use Rattle.asn_rules.specs.Grammar.{rules_of};
 
 use crate::expression::Expression;

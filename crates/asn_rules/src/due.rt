@@ -7,7 +7,8 @@
 ghost use Rattle.std.specs.Prelude.{◌≡◌, ◌≤◌, ℕ, List, [], ◌∷◌, IsSome, length, map};
 ghost use Rattle.asn_rules.specs.Expression.{expression};
 ghost use Rattle.asn_rules.specs.Due.{piece, pieces_of, reason_of, context_of, lacks, Through, IsDue};
-ghost use Rattle.asn_rules.specs.Attempts.{Came, Walked, Found, IsFollowed};
+ghost use Rattle.asn_rules.specs.Attempts.{Found};
+ghost use Rattle.asn_rules.specs.inner.Walks.{Came, Walked, IsFollowed};
 ghost use Rattle.asn_rules.specs.Grammar.{rules_of};
 ghost use Rattle.asn_rules.specs.Valid.{Fails};
 ghost use Rattle.asn_rules.specs.declared.due.ModulePart.{ModulePart as OnePart};

@@ -6,7 +6,7 @@
 ghost use Rattle.std.specs.Prelude.{◌≡◌, ◌≤◌, ◌<◌, ◌+◌, length};
 ghost use Rattle.asn_rules.specs.Expression.{expression, sight, seq, choice, many, never, guarded, rule};
 ghost use Rattle.asn_rules.specs.Runs.{seen};
-ghost use Rattle.asn_rules.specs.Answer.{answer, at_height, raised, one_more, IsWithin};
+ghost use Rattle.asn_rules.specs.inner.Answer.{answer, at_height, raised, IsWithin};
 ghost use Rattle.asn_rules.specs.Grammar.{rules_of};
 
 use crate::expression::Expression;

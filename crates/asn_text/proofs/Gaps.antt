@@ -11,7 +11,8 @@ use Rattle.asn_rules.specs.Runs.{ends, fails, Runs, ExactlyOne}
 use Rattle.asn_rules.specs.Whole.{whole_rules}
 use Rattle.asn_rules.specs.LexicalRules.{lexical_rules_before}
 use Rattle.asn_rules.proofs.Theory.{runs_lies}
-use Rattle.asn_text.specs.Reads.{EndsAt, HasPart, skips_gap, is_comment, body_rule, passes, FailsIn, IsFaultOf, IsGapFault}
+use Rattle.asn_text.specs.Reads.{EndsAt, body_rule, FailsIn, IsFaultOf, IsGapFault}
+use Rattle.asn_text.specs.inner.Parts.{HasPart, skips_gap, is_comment, passes}
 use Rattle.asn_text.specs.Input.{part_of}
 use Rattle.asn_text.specs.Part.{shown}
 use Rattle.asn_text.specs.declared.input.Input.{Input}

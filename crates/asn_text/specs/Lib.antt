@@ -11,3 +11,4 @@ pub mod Bits
 pub mod Reads
 pub mod Seen
 pub mod Deciding
+pub mod inner

@@ -1,18 +1,15 @@
 -- What the lexical readers read (X.680 12): a rule of the table is tried where the input begins.
-use Rattle.std.specs.Prelude.{◌≡◌, ℕ, ◌+◌, ◌≤◌, Bool, true, false, ◌||◌, List, codes, take, drop, slice_range, nat_eq, ℤ, Option, Some, None, if◌then◌else◌}
+use Rattle.std.specs.Prelude.{◌≡◌, ℕ, ◌+◌, ◌≤◌, true, false, List, codes, take, drop, slice_range, nat_eq, ℤ, Option, Some, None, if◌then◌else◌}
 use Rattle.std.specs.List.{starts_with}
-use Rattle.asn_rules.specs.Expression.{Expression, rule, seq, skip, guarded, rule_of, Sight, bytes, word as whole_word}
-use Rattle.asn_guards.specs.Allows.{allows}
+use Rattle.asn_rules.specs.Expression.{rule, Sight}
 use Rattle.asn_guards.specs.Guards.{bare, natural, integer}
 use Rattle.asn_guards.specs.Lexical.{stands, width}
 use Rattle.asn_rules.specs.Runs.{Ending, ends, fails, Runs, Exceeds}
 use Rattle.asn_rules.specs.Whole.{whole_rules}
-use Rattle.asn_rules.specs.declared.names.TheConstants.{BLOCK_COMMENT, COMMENT, COMMENT_BODY, LINE_BODY, LINE_COMMENT, SP}
+use Rattle.asn_rules.specs.declared.names.TheConstants.{COMMENT_BODY, LINE_BODY, SP}
 use Rattle.asn_text.specs.Part.{Part, shown, part_from}
 use Rattle.asn_text.specs.Input.{part_of}
 use Rattle.asn_text.specs.Fault.{IsNamedLeaf}
-use Rattle.asn_text.specs.declared.gap.Sought.{Sought}
-use Rattle.asn_text.specs.declared.gap.Sought.TheVariants.{Word, Symbol}
 use Rattle.asn_text.specs.declared.input.Input.{Input}
 use Rattle.asn_text.specs.declared.errors.ErrorTree.{out-ErrorTree}
 use Rattle.asn_text.specs.declared.fault.ParseFault.{ParseFault}
@@ -60,36 +57,6 @@ IsBody number text body = (place height : ℕ) × (Runs whole_rules text (rule n
 abbrev pub body_rule : List ℕ → ℕ
 body_rule text = if starts_with nat_eq text (codes "/*") then COMMENT_BODY else LINE_BODY
 
--- The rule begins with blanks and comments.
-abbrev pub skips_gap : Expression → Bool
-skips_gap (seq (rule number) rest) = nat_eq number SP
-skips_gap (seq (skip number) rest) = nat_eq number SP
-skips_gap (guarded (seq (rule number) rest) guard) = nat_eq number SP
-skips_gap expression = false
-
--- The three rules of comments.
-abbrev pub is_comment : ℕ → Bool
-is_comment number = nat_eq number COMMENT || nat_eq number BLOCK_COMMENT || nat_eq number LINE_COMMENT
-
--- A rule ends at a place, with a height that is at most the depth, and not behind the end.
-pub record HasPart (text : List ℕ) (number offset depth end : ℕ) : Type 0 where
-  pub place : ℕ
-  pub height : ℕ
-  pub run : Runs whole_rules text (rule number) offset (ends place) height
-  pub in_depth : height ≤ depth
-  pub from : offset ≤ place
-  pub before : place ≤ end
-
--- the guard of a rule lets pass what was taken
-abbrev pub passes : Expression → List ℕ → Bool
-passes (guarded expression guard) taken = allows guard taken
-passes expression taken = true
-
--- the bytes up to the rule's end, which its guard lets pass
-pub record IsTaken (text : List ℕ) (number : ℕ) (taken : List ℕ) (place : ℕ) : Type 0 where
-  pub taken_is : taken ≡ take place text
-  pub passes_guard : passes (rule_of whole_rules number) taken ≡ true
-
 -- What is looked for stands behind the blanks and comments, and is read.
 pub record Finds (sought : Sight) (depth : ℕ) (part rest : Part) (found : List ℕ) : Type 0 where
   pub place : ℕ
@@ -108,11 +75,6 @@ abbrev pub IsFaultOfFinding : Sight → List ℕ → Input → ℕ → ParseFaul
 IsFaultOfFinding sought name input depth (Fail tree) = Misses sought (shown (part_of input)) depth × IsNamedLeaf input name (out-ErrorTree tree)
 IsFaultOfFinding sought name input depth TooDeep = IsTooDeep (shown (part_of input)) SP depth
 IsFaultOfFinding sought name input depth OutOfMemory = ⊥
-
--- a whole word, or these bytes
-abbrev pub sight_of : Sought → List ℕ → Sight
-sight_of Word text = whole_word text
-sight_of Symbol text = bytes text
 
 -- the number that digits alone spell, from 0 to 2^bits - 1
 abbrev pub IsNatural : ℕ → List ℕ → ℕ → ℕ → Type 0

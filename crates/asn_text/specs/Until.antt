@@ -1,12 +1,9 @@
 -- Walks over a text from the left, until a tag is found.
 use Rattle.std.specs.List.{starts_with}
 use Rattle.std.specs.Prelude.{◌≡◌, ℕ, zero, suc, ◌+◌, ◌<◌, ◌≤◌, Bool, ◌||◌, nat_eq, List, length, take, drop, if◌then◌else◌}
-use Rattle.std.specs.Str.{IsCharBoundary}
 use Rattle.asn_text.specs.Part.{Part, shown, part_from}
 use Rattle.asn_text.specs.declared.until.Step.{Step}
 use Rattle.asn_text.specs.declared.until.Step.TheVariants.{Stop, Pass}
-use Rattle.asn_text.specs.declared.until.Sought.{Sought}
-use Rattle.asn_text.specs.declared.until.Sought.TheVariants.{Either, Unbalanced, AndNot}
 
 -- the tag stands at the offset
 abbrev pub stands_at : List ℕ → List ℕ → ℕ → Bool
@@ -56,22 +53,3 @@ pub record StopsWith (walker : Walker) (part rest : Part) (before : List ℕ) : 
   pub stops : StopsAt walker (shown part) 0 0 place
   pub rest_is : rest ≡ part_from place part
   pub before_is : before ≡ take place (shown part)
-
--- a tag is some characters
-abbrev pub IsTag : List ℕ → Type 0
-IsTag tag = (0 < length tag) × IsCharBoundary tag 0
-
-abbrev pub AreTags : Sought → Type 0
-AreTags (Either first second) = IsTag first.now × IsTag second.now
-AreTags (Unbalanced opening closing) = IsTag opening.now × IsTag closing.now
-AreTags (AndNot end excepted) = IsTag end.now × IsTag excepted.now
-
-abbrev pub walker_of : Sought → Walker
-walker_of (Either first second) = until_either first.now second.now
-walker_of (Unbalanced opening closing) = until_unbalanced opening.now closing.now
-walker_of (AndNot end excepted) = until_and_not end.now excepted.now
-
--- a step that stays within the text, and stops where a character begins
-abbrev pub IsWithin : List ℕ → ℕ → Step → Type 0
-IsWithin text i Stop = IsCharBoundary text i
-IsWithin text i (Pass bytes open_tags) = (0 < bytes) × (i + bytes ≤ length text) × (open_tags ≤ i + bytes)

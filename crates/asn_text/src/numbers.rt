@@ -9,7 +9,8 @@ ghost use Rattle.std.specs.Option.{is_some};
 ghost use Rattle.asn_guards.specs.Guards.{bare, natural, integer};
 ghost use Rattle.asn_text.specs.Input.{part_of};
 ghost use Rattle.asn_text.specs.Part.{shown};
-ghost use Rattle.asn_text.specs.Reads.{Reads, IsFaultOf, IsTaken, IsNatural, IsWhole};
+ghost use Rattle.asn_text.specs.Reads.{Reads, IsFaultOf, IsNatural, IsWhole};
+ghost use Rattle.asn_text.specs.inner.Parts.{IsTaken};
 
 use crate::fault::ParserResult;
 use crate::input::Input;

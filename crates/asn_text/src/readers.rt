@@ -4,14 +4,15 @@
 //! `TooDeep` exactly where the calls of its rule nest deeper than `depth`, and `Fail` exactly where they do not and the
 //! rule fails: a leaf with the input unchanged and the reader's name. The texts are slices of the source.
 
-ghost use Rattle.std.specs.Prelude.{◌≡◌, ◌≤◌, ℕ, true, codes, length, take, IfOk, IfErr};
+ghost use Rattle.std.specs.Prelude.{◌≡◌, ◌≤◌, ℕ, true, codes, take, IfOk, IfErr};
 ghost use Rattle.std.specs.Str.{IsCharBoundary};
 ghost use Rattle.asn_rules.specs.Expression.{rule as rule_call, rule_of};
 ghost use Rattle.asn_rules.specs.Runs.{ends, Runs};
 ghost use Rattle.asn_rules.specs.Whole.{whole_rules};
 ghost use Rattle.asn_text.specs.Input.{part_of};
 ghost use Rattle.asn_text.specs.Part.{shown};
-ghost use Rattle.asn_text.specs.Reads.{Reads, EndsAt, IsFaultOf, IsItem, IsBody, body_rule, skips_gap, is_comment, HasPart};
+ghost use Rattle.asn_text.specs.Reads.{Reads, EndsAt, IsFaultOf, IsItem, IsBody, body_rule};
+ghost use Rattle.asn_text.specs.inner.Parts.{skips_gap, is_comment, HasPart};
 
 use crate::fault::{ParseFault, ParserResult, fails};
 use crate::input::Input;

@@ -1,11 +1,12 @@
 //! Texts up to a tag: the calls that walk over an input from the left and stop where a tag stands.
 
-ghost use Rattle.std.specs.Prelude.{ℕ, List, ◌≡◌, ◌+◌, ◌<◌, ◌≤◌, codes, length, IfOk, IfErr, IfSome, MatchOption, IsTrue, suc};
+ghost use Rattle.std.specs.Prelude.{ℕ, List, ◌≡◌, ◌+◌, ◌<◌, ◌≤◌, codes, length, IfOk, IfErr, IfSome, MatchOption, IsTrue};
 ghost use Rattle.std.specs.Str.{IsCharBoundary};
 ghost use Rattle.asn_text.specs.Fault.{FailsAt};
 ghost use Rattle.asn_text.specs.Input.{part_of};
 ghost use Rattle.asn_text.specs.Part.{shown};
-ghost use Rattle.asn_text.specs.Until.{Walker, stands_at, StopsAt, NeverStops, StopsWith, until_either, until_unbalanced, until_and_not, closing_step, walker_of, IsTag, AreTags, IsWithin};
+ghost use Rattle.asn_text.specs.Until.{Walker, stands_at, StopsAt, NeverStops, StopsWith, until_either, until_unbalanced, until_and_not, closing_step};
+ghost use Rattle.asn_text.specs.inner.Walks.{walker_of, IsTag, AreTags, IsWithin};
 
 use crate::fault::{ParserResult, fails};
 use crate::input::Input;

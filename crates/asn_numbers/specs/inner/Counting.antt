@@ -1,8 +1,8 @@
 -- How the numbers of an enumeration are counted.
-use Rattle.std.specs.Prelude.{◌≡◌, ℕ, ◌+◌, ◌≤◌, ◌<◌, ◌^◌, nat_lt, max, ℤ, pos, negsuc, true, false, if◌then◌else◌, List, [], Option, Some, None}
+use Rattle.std.specs.Prelude.{◌≡◌, ℕ, ◌≤◌, ◌<◌, ℤ, pos, true, false, List, [], Option, Some, None}
 use Rattle.asn_numbers.specs.declared.enumeration.Part.{Part}
 use Rattle.asn_numbers.specs.declared.enumeration.Part.TheVariants.{Root, Additions}
-use Rattle.asn_numbers.specs.Enumeration.{has, Numbered, SomePasses}
+use Rattle.asn_numbers.specs.Enumeration.{has, if_fits, from_above, Numbered, SomePasses}
 
 -- the least number from `from` on that is not taken
 pub record IsLeastFrom (taken : List ℤ) (from n : ℕ) : Type 0 where
@@ -10,19 +10,10 @@ pub record IsLeastFrom (taken : List ℤ) (from n : ℕ) : Type 0 where
   pub is_new : has taken (pos n) ≡ false
   pub is_least : (k : ℕ) → from ≤ k → k < n → has taken (pos k) ≡ true
 
--- the number, if it is one of 128 bits
-abbrev pub if_fits : ℕ → Option ℤ
-if_fits n = if nat_lt n (2 ^ 127) then Some (pos n) else None
-
 -- what an item is given: the number that is written, else the least that is not taken, if it is one of 128 bits
 abbrev pub IsGiven : List ℤ → ℕ → Option ℤ → Option ℤ → Type 0
 IsGiven taken from (Some m) answer = answer ≡ Some m
 IsGiven taken from None answer = (n : ℕ) × IsLeastFrom taken from n × (answer ≡ if_fits n)
-
--- the least number that is neither negative nor below `from`, and above n
-abbrev pub from_above : ℕ → ℤ → ℕ
-from_above from (pos n) = max from (n + 1)
-from_above from (negsuc n) = from
 
 -- where the next item's number is counted from
 abbrev pub from_behind : Part → ℕ → Option ℤ → ℤ → ℕ

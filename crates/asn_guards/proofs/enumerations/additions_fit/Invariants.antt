@@ -1,6 +1,6 @@
 use Rattle.std.proofs.Common.{◌≡◌, length}
 use Rattle.asn_guards.specs.Enumerations.{additions_fit, items}
-use Rattle.asn_guards.specs.Sizes.{is_taken}
+use Rattle.asn_guards.specs.inner.Sizes.{is_taken}
 use Rattle.asn_guards.proofs.enumerations.additions_fit.Given as goal
 
 abbrev pub invariant-loop-item : goal.invariant-loop-item

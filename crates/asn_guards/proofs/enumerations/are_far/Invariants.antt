@@ -1,7 +1,7 @@
 use Rattle.std.proofs.Common.{◌≡◌, length}
 use Rattle.std.specs.List.{list_all}
 use Rattle.asn_guards.specs.Enumerations.{items}
-use Rattle.asn_guards.specs.Sizes.{is_far}
+use Rattle.asn_guards.specs.inner.Sizes.{is_far}
 use Rattle.asn_guards.proofs.enumerations.are_far.Given as goal
 
 abbrev pub invariant-loop-item : goal.invariant-loop-item

@@ -1,6 +1,6 @@
 use Rattle.std.proofs.Common.{◌≡◌, ◌^◌, ◌-◌}
 use Rattle.asn_guards.specs.Enumerations.{items, least_free}
-use Rattle.asn_guards.specs.Sizes.{is_taken}
+use Rattle.asn_guards.specs.inner.Sizes.{is_taken}
 use Rattle.asn_guards.proofs.enumerations.least_free.Given as goal
 
 abbrev pub invariant-loop-fitting : goal.invariant-loop-fitting

@@ -1,7 +1,7 @@
 use Rattle.std.proofs.Common.{sym, ap, ◌∙◌, ◌<◌, ◌^◌, length, arith}
 use Rattle.std.specs.List.{list_all}
 use Rattle.asn_guards.specs.Enumerations.{items}
-use Rattle.asn_guards.specs.Sizes.{is_far}
+use Rattle.asn_guards.specs.inner.Sizes.{is_far}
 use Rattle.asn_guards.proofs.FarNumbers.{far_fit}
 use Rattle.asn_guards.proofs.enumerations.numbers_fit.Goals as goal
 

@@ -1,6 +1,6 @@
 use Rattle.std.proofs.Common.{◌≡◌, ◌≤◌, ◌+◌, length, suc}
 use Rattle.asn_guards.specs.Guards.{within}
-use Rattle.asn_guards.specs.Sizes.{outside_from}
+use Rattle.asn_guards.specs.Outside.{outside_from}
 use Rattle.asn_guards.proofs.gaps.behind_block.Given as goal
 
 abbrev pub invariant-loop-rest : goal.invariant-loop-rest

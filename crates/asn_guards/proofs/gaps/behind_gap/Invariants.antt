@@ -1,5 +1,5 @@
 use Rattle.std.proofs.Common.{◌≡◌, ◌≤◌, length}
-use Rattle.asn_guards.specs.Sizes.{outside}
+use Rattle.asn_guards.specs.Outside.{outside}
 use Rattle.asn_guards.proofs.gaps.behind_gap.Given as goal
 
 abbrev pub invariant-loop-rest : goal.invariant-loop-rest

@@ -1,6 +1,6 @@
 use Rattle.std.proofs.Common.{◌≡◌, ◌≤◌, length}
 use Rattle.asn_guards.specs.Guards.{in_line}
-use Rattle.asn_guards.specs.Sizes.{outside_from}
+use Rattle.asn_guards.specs.Outside.{outside_from}
 use Rattle.asn_guards.proofs.gaps.behind_line.Given as goal
 
 abbrev pub invariant-loop-rest : goal.invariant-loop-rest

@@ -1,7 +1,7 @@
 use Rattle.std.proofs.Common.{◌≡◌, nat_eq, length}
 use Rattle.std.specs.Cmp.Lexicographic.{pointwise}
 use Rattle.asn_guards.specs.Guards.{bare}
-use Rattle.asn_guards.specs.Sizes.{part}
+use Rattle.asn_guards.specs.inner.Sizes.{part}
 use Rattle.asn_guards.proofs.guards.is_word.Given as goal
 
 abbrev pub invariant-loop-byte : goal.invariant-loop-byte

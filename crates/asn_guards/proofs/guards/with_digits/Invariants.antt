@@ -1,6 +1,6 @@
 use Rattle.std.proofs.Common.{◌≡◌, length}
 use Rattle.asn_guards.specs.Guards.{bare}
-use Rattle.asn_guards.specs.Sizes.{lengthened_by, part}
+use Rattle.asn_guards.specs.inner.Sizes.{lengthened_by, part}
 use Rattle.asn_guards.proofs.guards.with_digits.Given as goal
 
 abbrev pub invariant-loop-digit : goal.invariant-loop-digit

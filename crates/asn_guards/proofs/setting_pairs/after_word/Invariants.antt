@@ -1,6 +1,6 @@
 use Rattle.std.proofs.Common.{◌≡◌, length}
 use Rattle.asn_guards.specs.Guards.{bare}
-use Rattle.asn_guards.specs.Sizes.{behind_word}
+use Rattle.asn_guards.specs.inner.Sizes.{behind_word}
 use Rattle.asn_guards.proofs.setting_pairs.after_word.Given as goal
 
 abbrev pub invariant-loop-byte : goal.invariant-loop-byte

@@ -1,11 +1,11 @@
 use Rattle.std.specs.Prelude.{IfOk}
 use Rattle.std.proofs.Common.{Result, Ok, Err, ℕ, List, length, ◌≤◌, ◌≡◌, ◌+◌, ◌<◌, ◌++◌, max, sym, ap, ◌∙◌, arith}
 use Rattle.asn_rules.specs.Expression.{expression, many, Sight}
-use Rattle.asn_rules.specs.Grown.{grown, after, of_outcome, with_leaf, IsWithinGrowth}
+use Rattle.asn_rules.specs.inner.Grown.{grown, after, of_outcome, with_leaf, IsWithinGrowth}
 use Rattle.asn_rules.specs.Runs.{seen}
 use Rattle.asn_rules.specs.declared.marks.Mark.{Mark}
 use Rattle.asn_rules.specs.declared.derive.Growth.{Growth}
-use Rattle.asn_rules.specs.Answer.{answer}
+use Rattle.asn_rules.specs.inner.Answer.{answer}
 use Rattle.asn_rules.specs.Grammar.{rules_of}
 use Rattle.asn_rules.specs.declared.derive.Growth.TheVariants.{End, Fail}
 use Rattle.asn_rules.proofs.Theory.{max_is}

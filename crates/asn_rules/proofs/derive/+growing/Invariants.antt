@@ -1,6 +1,6 @@
 use Rattle.std.proofs.Common.{◌≡◌, ◌≤◌, ◌+◌, ◌-◌, ◌*◌, length}
 use Rattle.asn_rules.specs.Expression.{expression, many, weight}
-use Rattle.asn_rules.specs.Grown.{grown, after}
+use Rattle.asn_rules.specs.inner.Grown.{grown, after}
 use Rattle.asn_rules.specs.Grammar.{rules_of}
 use Rattle.asn_rules.proofs.derive.+growing.Given as goal
 

@@ -1,6 +1,6 @@
 use Rattle.std.proofs.Common.{◌≡◌, ◌<◌, max, sym, ap, ◌∙◌, arith, Ok}
 use Rattle.asn_rules.specs.Expression.{expression, many, sight}
-use Rattle.asn_rules.specs.Answer.{answer, raise}
+use Rattle.asn_rules.specs.inner.Answer.{answer, raise}
 use Rattle.asn_rules.specs.Grammar.{rules_of}
 use Rattle.asn_rules.specs.declared.run.Outcome.TheVariants.{End, Fail}
 use Rattle.asn_rules.proofs.Theory.{called, many_answer, raise_raise, max_is, seen_within}

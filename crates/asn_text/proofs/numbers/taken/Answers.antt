@@ -1,7 +1,7 @@
 use Rattle.std.proofs.Common.{ap, ◌∙◌}
 use Rattle.asn_rules.specs.Expression.{rule_of}
 use Rattle.asn_rules.specs.Whole.{whole_rules}
-use Rattle.asn_text.specs.Reads.{passes}
+use Rattle.asn_text.specs.inner.Parts.{passes}
 use Rattle.asn_text.proofs.Gaps.{passed_guard}
 use Rattle.asn_text.proofs.numbers.taken.Goals as goal
 

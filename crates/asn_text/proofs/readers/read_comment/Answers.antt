@@ -1,5 +1,5 @@
 use Rattle.std.proofs.Common.{sym, List, ℕ, subst}
-use Rattle.asn_text.specs.Reads.{HasPart}
+use Rattle.asn_text.specs.inner.Parts.{HasPart}
 use Rattle.asn_text.proofs.Gaps.{comment_body, behind_mark, Body}
 use Rattle.asn_text.proofs.readers.read_comment.Goals as goal
 

@@ -1,5 +1,6 @@
 use Rattle.std.proofs.Common.{◌-◌, ◌≤◌, ℕ, length}
-use Rattle.asn_text.specs.Until.{walker_of, StopsAt, NeverStops}
+use Rattle.asn_text.specs.Until.{StopsAt, NeverStops}
+use Rattle.asn_text.specs.inner.Walks.{walker_of}
 use Rattle.asn_text.proofs.until.find.Given as goal
 
 abbrev pub invariant-loop-place : goal.invariant-loop-place

@@ -1,6 +1,6 @@
 use Rattle.std.proofs.Common.{sym, subst, List, ℕ}
 use Rattle.std.proofs.lemmas.Str.{IsCharBoundary-start}
-use Rattle.asn_text.specs.Until.{IsTag}
+use Rattle.asn_text.specs.inner.Walks.{IsTag}
 use Rattle.asn_text.proofs.until.tag.Goals as goal
 
 pub returns-clause-tag : goal.returns-clause-tag

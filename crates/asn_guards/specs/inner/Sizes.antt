@@ -1,9 +1,8 @@
--- Numbers, read digit by digit, and bytes outside blanks and comments, found one by one. Only private contracts cite these, but for
--- `outside`, which that of `next_bare` cites.
+-- Numbers, read digit by digit.
 use Rattle.std.specs.Prelude.{ℕ, pos, ◌+◌, ◌*◌, ◌-◌, ◌^◌, List, [], ◌∷◌, Bool, true, false, ◌&&◌, ◌||◌, nat_eq, nat_lt, Option, Some, None, if◌then◌else◌, ℤ, neg_ℤ, int_lt}
 use Rattle.std.specs.Option.{is_some}
 use Rattle.asn_guards.specs.Lexical.{is_digit}
-use Rattle.asn_guards.specs.Guards.{Place, within, onward, is_outside, is_empty, before, mantissa, fitting, natural}
+use Rattle.asn_guards.specs.Guards.{is_empty, before, mantissa, fitting, natural}
 use Rattle.asn_numbers.specs.Enumeration.{has, written}
 use Rattle.asn_guards.specs.Enumerations.{at_number, behind_item, given}
 use Rattle.asn_guards.specs.declared.guards.Sign.{Sign}
@@ -33,19 +32,6 @@ below bits o = at_some o (λ n. if nat_lt n (2 ^ bits) then Some n else None)
 
 abbrev pub narrowed : ℕ → Option ℤ → Option ℤ
 narrowed bits o = at_some o (fitting bits)
-
--- the bytes from the first outside blanks and comments on
-unfoldable pub outside_from : Place → List ℕ → List ℕ
-outside_from p [] = []
-outside_from p (b ∷ bs) = if is_outside p (b ∷ bs) then b ∷ bs else outside_from (onward p (b ∷ bs)) bs
-
-abbrev pub outside : List ℕ → List ℕ
-outside bs = outside_from (within 0) bs
-
--- the first of the bytes is outside blanks and comments, if there is one
-abbrev pub starts_bare : List ℕ → Bool
-starts_bare [] = true
-starts_bare (b ∷ bs) = is_outside (within 0) (b ∷ bs)
 
 -- the number of this sign and size
 abbrev pub with_sign : Sign → ℕ → ℤ

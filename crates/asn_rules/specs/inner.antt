@@ -1,0 +1,4 @@
+-- What private contracts alone cite.
+pub mod Answer
+pub mod Grown
+pub mod Walks
