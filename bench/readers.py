@@ -12,7 +12,10 @@ import resource
 import subprocess
 import sys
 
-KINDS = ("bits", "octets", "characters", "arcs", "members", "items")
+KINDS = (
+    "bits", "octets", "characters", "arcs", "members", "items",
+    "times", "named_bits", "dotted_names", "numbers", "reals",
+)
 RUNS = 5
 HERE = os.path.dirname(os.path.abspath(__file__))
 PROGRAM = os.path.join(HERE, "..", "crates", "asn_value_tests", "out", "asn_value_tests")

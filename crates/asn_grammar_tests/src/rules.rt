@@ -10,12 +10,31 @@ use asn_rules::{
 use asn_text::Mem;
 use std::alloc::Global;
 
-// Whether the rule of the grammar stands at the start of the text, and takes all of it.
-fn takes_all(grammar: Grammar, text: &str, rule: RuleId) -> bool {
+// Whether the rule of the first part of the notation stands at the start of the text, and takes all of it.
+fn takes_all(text: &str, rule: RuleId) -> bool {
     matches!(
-        outcome_of(grammar, text, rule, 0, 512),
+        outcome_of(Grammar::First, text, rule, 0, 512),
         Ok(Outcome::End { offset, .. }) if offset == text.len()
     )
+}
+
+// The same of the rule of the whole notation, by the call over that table.
+fn takes_all_of_whole(alloc: Global, text: &str, rule: RuleId) -> bool {
+    matches!(
+        try_rule(alloc, text, rule, 0, 512),
+        Ok(Outcome::End { offset, .. }) if offset == text.len()
+    )
+}
+
+// Whether the call over any table answers as the one over the whole notation does.
+fn is_tried_alike(alloc: Global, text: &str, rule: RuleId) -> bool {
+    match (
+        try_rule(alloc, text, rule, 0, 512),
+        outcome_of(Grammar::Whole, text, rule, 0, 512),
+    ) {
+        (Ok(by_whole), Ok(by_any)) => by_whole == by_any,
+        _ => false,
+    }
 }
 
 #[test]
@@ -57,11 +76,7 @@ fn takes_whole_modules(rt: HostRuntime) {
         ),
         ("M DEFINITIONS ::= BEGIN END /* /* */", false),
     ] {
-        assert_eq!(rt;
-            takes_all(Grammar::First, text, RuleId::new(ASN_SPEC)),
-            want,
-            "at {text}"
-        );
+        assert_eq!(rt; takes_all(text, RuleId::new(ASN_SPEC)), want, "at {text}");
     }
 }
 
@@ -79,7 +94,6 @@ fn judges_ranges(rt: HostRuntime) {
     ] {
         assert_eq!(rt;
             takes_all(
-                Grammar::First,
                 text,
                 RuleId {
                     number: VALUE_RANGE
@@ -195,11 +209,14 @@ fn takes_lexical_rules_whole(rt: HostRuntime) {
         ("all_value", "ALL", true),
     ] {
         match reader_rule(name) {
-            Some(rule) => assert_eq!(rt;
-                takes_all(Grammar::Whole, text, rule),
-                want,
-                "{name} at {text}"
-            ),
+            Some(rule) => {
+                assert_eq!(rt;
+                    takes_all_of_whole(rt.alloc(), text, rule),
+                    want,
+                    "{name} at {text}"
+                );
+                assert!(rt; is_tried_alike(rt.alloc(), text, rule), "{name} at {text}");
+            }
             None => assert!(rt; false, "{name}"),
         }
     }
@@ -248,9 +265,39 @@ fn takes_rows_whole(rt: HostRuntime) {
         ("time_chars", "12", false),
         ("time_chars", "T", false),
         ("time_value", "\"12:30Z\"", true),
+        ("struct_item", "a 5", true),
+        ("struct_item", "a-b {1, c TRUE}", true),
+        ("struct_item", "-/**/5", true),
+        ("struct_item", "a 5, b 6", false),
+        ("struct_item", "A 5", false),
         ("binary", "'01 0'B", true),
         ("hexadecimal", "'0A F'H", true),
         ("hexadecimal", "'0G'H", false),
+        ("named_bits", "{}", true),
+        ("named_bits", "{a, -- c --b-1 }", true),
+        ("named_bits", "{a,}", false),
+        ("named_bits", "{A}", false),
+        ("bit_string_value", "'0110'B", true),
+        ("bit_string_value", "/**/'A1 F'H", true),
+        ("bit_string_value", "{a, b}", true),
+        ("bit_string_value", "{1, 2}", false),
+        ("bit_string_value", "'012'B", false),
+        ("boolean_value", "TRUE", true),
+        ("boolean_value", "-- c --FALSE", true),
+        ("boolean_value", "True", false),
+        ("boolean_value", "TRUE-X", false),
+        ("integer_value", "- 007", true),
+        (
+            "integer_value",
+            "170141183460469231731687303715884105727",
+            true,
+        ),
+        (
+            "integer_value",
+            "170141183460469231731687303715884105728",
+            false,
+        ),
+        ("integer_value", "1.5", false),
         ("quoted", "\"a\"\"b\n\u{e9}\"", true),
         ("octet_number", "00255", true),
         ("octet_number", "256", false),
@@ -356,11 +403,14 @@ fn takes_rows_whole(rt: HostRuntime) {
         ),
     ] {
         match reader_rule(name) {
-            Some(rule) => assert_eq!(rt;
-                takes_all(Grammar::Whole, text, rule),
-                want,
-                "{name} at {text}"
-            ),
+            Some(rule) => {
+                assert_eq!(rt;
+                    takes_all_of_whole(rt.alloc(), text, rule),
+                    want,
+                    "{name} at {text}"
+                );
+                assert!(rt; is_tried_alike(rt.alloc(), text, rule), "{name} at {text}");
+            }
             None => assert!(rt; false, "{name}"),
         }
     }

@@ -1,4 +1,4 @@
--- In a text of characters nothing that is read is replaced, and blanks and comments are what the bytes tell.
+-- In a text of characters nothing that is read is replaced, and what the rule of blanks takes, bytes tell as blanks too.
 use Rattle.std.specs.Prelude.{◌≡◌, ℕ, List, Some, drop, encode_utf8_all}
 use Rattle.std.specs.Str.{IsUtf8, IsCharBoundary, chars}
 use Rattle.asn_rules.specs.Children.{StandsBy}
@@ -29,6 +29,6 @@ QuotedBytesAreExact = (text : List ℕ) (n : Node) → IsUtf8 text → StandsBy 
 abbrev pub QuotedCharactersAreExact : Type 0
 QuotedCharactersAreExact = (text : List ℕ) (n : Node) → IsUtf8 text → StandsBy whole_rules text n → IsCharBoundary text (out-Node n).start → quoted_of text n ≡ the (child_of n QUOTED_BODY) (λ body. Some (encode_utf8_all (single (chars (taken text body)))))
 
--- the blanks and comments that their rule takes are those that the bytes tell
+-- what the rule of blanks and comments takes, the walk over bytes that finds the first outside them passes over too
 abbrev pub BlanksAreThoseOfBytes : Type 0
 BlanksAreThoseOfBytes = (text : List ℕ) (i j h : ℕ) → Runs whole_rules text (rule SP) i (ends j) h → outside (drop i text) ≡ outside (drop j text)

@@ -1,4 +1,4 @@
-//! Laws: what is read of a text of characters is its bytes, and blanks and comments are what the bytes tell.
+//! Laws: what is read of a text of characters is its bytes, and what the rule of blanks takes, bytes tell as blanks too.
 
 ghost use Rattle.asn_literals.specs.Exact.{BlanksAreThoseOfBytes, NamesAreExact, QuotedBytesAreExact, QuotedCharactersAreExact, TimesAreExact};
 
@@ -27,8 +27,9 @@ pub fn quoted_are_exact()
     children_at_characters();
 }
 
-/// The blanks and comments that their rule takes are those that the bytes tell (X.680 12.1.6 and 12.6): `next_bare` finds the
-/// same before them as behind them.
+/// What the rule of blanks and comments takes, `next_bare` passes over too (X.680 12.1.6 and 12.6): it finds the same before
+/// what was taken as behind it. Not the other way round: of a `/*` that is not closed the rule takes nothing, and `next_bare`
+/// passes to the end.
 pub fn blanks_are_those_of_bytes()
     ensures { BlanksAreThoseOfBytes }
 {}

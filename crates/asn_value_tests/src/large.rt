@@ -3,12 +3,14 @@
 //! `bench/readers.py` runs each test by itself and tells how long it takes.
 
 use asn_rules::names::{
-    BIT_STRING_VALUE, CHARACTER_STRING_VALUE, OBJECT_IDENTIFIER_VALUE, SEQUENCE_VALUE,
+    BIT_STRING_VALUE, CHARACTER_STRING_VALUE, ELSEWHERE_DECLARED_VALUE, INTEGER_VALUE,
+    OBJECT_IDENTIFIER_VALUE, REAL_VALUE, SEQUENCE_VALUE, TIME_VALUE,
 };
 use asn_rules::{Outcome, RuleId, try_rule};
 use asn_text::{Input, ParserResult};
 use asn_values::{
-    bit_string_value, character_string_value, object_identifier_value, sequence_value,
+    bit_string_value, character_string_value, elsewhere_declared_value, integer_value,
+    object_identifier_value, real_value, sequence_value, time_value,
 };
 use std::alloc::{AllocError, Global};
 use std::test::Fail;
@@ -45,6 +47,26 @@ fn members(alloc: Global) -> Result<String, AllocError> {
 
 fn items(alloc: Global) -> Result<String, AllocError> {
     large(alloc, "{", "123, -456,", "7 }")
+}
+
+fn times(alloc: Global) -> Result<String, AllocError> {
+    large(alloc, "\"", "12:30:45.,", "\"")
+}
+
+fn named_bits(alloc: Global) -> Result<String, AllocError> {
+    large(alloc, "{", "abcdefgh, ", "a}")
+}
+
+fn dotted_names(alloc: Global) -> Result<String, AllocError> {
+    large(alloc, "", "abcdefgh.&", "id")
+}
+
+fn numbers(alloc: Global) -> Result<String, AllocError> {
+    large(alloc, "", "0000000000", "7")
+}
+
+fn reals(alloc: Global) -> Result<String, AllocError> {
+    large(alloc, "", "0000000000", "1.5")
 }
 
 // Whether a reader takes all of the bytes.
@@ -192,5 +214,101 @@ fn items_read(rt: HostRuntime) -> Result<(), Fail> {
 fn items_tried(rt: HostRuntime) -> Result<(), Fail> {
     let text = items(rt.alloc())?;
     assert!(rt; is_tried(rt.alloc(), text.as_str(), RuleId::new(SEQUENCE_VALUE)));
+    Ok(())
+}
+
+#[test]
+fn times_read(rt: HostRuntime) -> Result<(), Fail> {
+    let text = times(rt.alloc())?;
+    let text = text.as_str();
+    assert!(rt; is_read(time_value(rt.alloc(), Input::from(text), 512), text.len()));
+    Ok(())
+}
+
+#[test]
+fn times_tried(rt: HostRuntime) -> Result<(), Fail> {
+    let text = times(rt.alloc())?;
+    assert!(rt; is_tried(rt.alloc(), text.as_str(), RuleId::new(TIME_VALUE)));
+    Ok(())
+}
+
+#[test]
+fn named_bits_read(rt: HostRuntime) -> Result<(), Fail> {
+    let text = named_bits(rt.alloc())?;
+    let text = text.as_str();
+    assert!(rt;
+        is_read(
+            bit_string_value(rt.alloc(), Input::from(text), 512),
+            text.len()
+        )
+    );
+    Ok(())
+}
+
+#[test]
+fn named_bits_tried(rt: HostRuntime) -> Result<(), Fail> {
+    let text = named_bits(rt.alloc())?;
+    assert!(rt; is_tried(rt.alloc(), text.as_str(), RuleId::new(BIT_STRING_VALUE)));
+    Ok(())
+}
+
+#[test]
+fn dotted_names_read(rt: HostRuntime) -> Result<(), Fail> {
+    let text = dotted_names(rt.alloc())?;
+    let text = text.as_str();
+    assert!(rt;
+        is_read(
+            elsewhere_declared_value(rt.alloc(), Input::from(text), 512),
+            text.len()
+        )
+    );
+    Ok(())
+}
+
+#[test]
+fn dotted_names_tried(rt: HostRuntime) -> Result<(), Fail> {
+    let text = dotted_names(rt.alloc())?;
+    assert!(rt;
+        is_tried(
+            rt.alloc(),
+            text.as_str(),
+            RuleId::new(ELSEWHERE_DECLARED_VALUE)
+        )
+    );
+    Ok(())
+}
+
+#[test]
+fn numbers_read(rt: HostRuntime) -> Result<(), Fail> {
+    let text = numbers(rt.alloc())?;
+    let text = text.as_str();
+    assert!(rt;
+        is_read(
+            integer_value(rt.alloc(), Input::from(text), 512),
+            text.len()
+        )
+    );
+    Ok(())
+}
+
+#[test]
+fn numbers_tried(rt: HostRuntime) -> Result<(), Fail> {
+    let text = numbers(rt.alloc())?;
+    assert!(rt; is_tried(rt.alloc(), text.as_str(), RuleId::new(INTEGER_VALUE)));
+    Ok(())
+}
+
+#[test]
+fn reals_read(rt: HostRuntime) -> Result<(), Fail> {
+    let text = reals(rt.alloc())?;
+    let text = text.as_str();
+    assert!(rt; is_read(real_value(rt.alloc(), Input::from(text), 512), text.len()));
+    Ok(())
+}
+
+#[test]
+fn reals_tried(rt: HostRuntime) -> Result<(), Fail> {
+    let text = reals(rt.alloc())?;
+    assert!(rt; is_tried(rt.alloc(), text.as_str(), RuleId::new(REAL_VALUE)));
     Ok(())
 }

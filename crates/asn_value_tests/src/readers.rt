@@ -50,6 +50,7 @@ fn at<'a>(text: &'a str) -> Input<'a> {
 #[test]
 fn words(rt: HostRuntime) -> Result<(), Fail> {
     let alloc = rt.alloc();
+    assert!(rt; is_read(all_value(alloc, at("ALL"), 9), 3, ASN1Value::All));
     assert!(rt; is_read(all_value(alloc, at(" ALL."), 9), 4, ASN1Value::All));
     assert!(rt; failure(all_value(alloc, at("ALLE"), 9)) == "all_value");
     assert!(rt; is_too_deep(all_value(alloc, at("ALL"), 1)));
@@ -215,6 +216,16 @@ fn arc(alloc: Global, name: Option<&str>, number: Option<u128>) -> Mem<ObjectIde
 #[test]
 fn object_identifiers(rt: HostRuntime) -> Result<(), Fail> {
     let alloc = rt.alloc();
+    let mut arcs = List::new(alloc);
+    arcs.add(arc(alloc, Some("iso"), Some(1))?)?;
+    arcs.add(arc(alloc, None, Some(3))?)?;
+    assert!(rt;
+        is_read(
+            object_identifier_value(alloc, at("{iso(1) 3}"), 9),
+            10,
+            ObjectIdentifierValue(arcs)
+        )
+    );
     let mut arcs = List::new(alloc);
     arcs.add(arc(alloc, Some("iso"), Some(1))?)?;
     arcs.add(arc(alloc, None, Some(3))?)?;
