@@ -10,7 +10,7 @@ use Rattle.asn_guards.specs.Guards.{are_digits, bare, bare_from, begins, decimal
 use Rattle.asn_guards.specs.Outside.{starts_bare}
 use Rattle.asn_guards.proofs.Bare.{bare_byte}
 
-both_true : (s t : Bool) → (s && t) ≡ true → (s ≡ true) × (t ≡ true)
+pub both_true : (s t : Bool) → (s && t) ≡ true → (s ≡ true) × (t ≡ true)
 both_true true t e = (refl, e)
 both_true false t e = absurd cc
 

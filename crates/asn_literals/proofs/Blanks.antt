@@ -67,7 +67,7 @@ module _ (text : List ℕ) where
   moved : (p : Place) (n i j : ℕ) → i + n ≡ j → outside_from p (drop n (drop i text)) ≡ at p j
   moved p n i j e = ap (outside_from p) (drop-drop n i text ∙ ap (λ k. drop k text) e)
 
-  missed_as : {s : Sight} {i h : ℕ} {o : Ending} → Runs whole_rules text (see s) i o h → o ≡ fails → stands s (drop i text) ≡ false
+  pub missed_as : {s : Sight} {i h : ℕ} {o : Ending} → Runs whole_rules text (see s) i o h → o ≡ fails → stands s (drop i text) ≡ false
   missed_as (sees {s} {i}) e = go (stands s (drop i text)) e
     where
       go : (b : Bool) → (if b then ends (i + width s) else fails) ≡ fails → b ≡ false
@@ -208,3 +208,12 @@ module _ (text : List ℕ) where
   pub blanks : {i j h : ℕ} → Ends (rule 1) i j h → at (within 0) i ≡ at (within 0) j
   unfolding whole_rules lexical_rules_before
   blanks run = gap (called whole_rules text run).run
+
+  -- blanks with a comment behind them
+  blank_turns : {i j h : ℕ} → Ends (many blank) i j h → at (within 0) i ≡ at (within 0) j
+  blank_turns {i} (many_turn {j = m} p lt q) = let s = stood whole_rules text p in past_blank (drop i text) s.0 ∙ moved (within 0) 1 i m s.1 ∙ blank_turns q
+  blank_turns (many_idle p) = refl
+  blank_turns (many_fails p) = refl
+
+  pub item_comment : {i j h : ℕ} → Ends (seq (many blank) (rule 2)) i j h → at (within 0) i ≡ at (within 0) j
+  item_comment run = let p = parts whole_rules text run in blank_turns p.first ∙ any_comment p.second

@@ -6,3 +6,9 @@ pub mod Views
 pub mod Quotes
 pub mod Blanks
 pub mod ExactReadings
+pub mod Slices
+pub mod Derived
+pub mod ItemBytes
+pub mod NumberBytes
+pub mod Enumerals
+pub mod EnumeratedItems

@@ -6,3 +6,4 @@ pub mod Identifiers
 pub mod Paths
 pub mod Reals
 pub mod Exact
+pub mod Enumerals
