@@ -11,7 +11,4 @@ pub mod Places
 pub mod Needed
 pub mod Decided
 pub mod Faulted
-pub mod Shown
-pub mod Judging
-pub mod Passing
 pub mod PlainForms

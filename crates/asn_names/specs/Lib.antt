@@ -4,12 +4,7 @@ pub mod Faults
 pub mod Index
 pub mod Given
 pub mod Linked
-pub mod Answers
-pub mod ValueTrees
-pub mod Scopes
 pub mod Layers
-pub mod Judge
-pub mod Trees
 pub mod Needed
 pub mod Decided
 pub mod Laws

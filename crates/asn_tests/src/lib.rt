@@ -7,8 +7,6 @@
 #![tactic(auto)]
 
 #[cfg(test)]
-mod judging;
-#[cfg(test)]
 mod meaning;
 #[cfg(test)]
 mod modules;

@@ -2,8 +2,11 @@
 
 use crate::readings::reading_of;
 use asn_check::link_reading;
+use asn_judge::judge;
 use asn_memory::{List, Mem, Text};
-use asn_names::{Answer, Field, Names, Tree, judge_type};
+use asn_names::Names;
+use asn_shapes::{Answer, Field, Tree};
+use asn_tree::ToplevelDefinition;
 use std::alloc::Global;
 use std::test::Fail;
 
@@ -15,16 +18,27 @@ const TEXT: &str =
 const STEPS: usize = 64;
 
 // What the type of this name answers; None where there is none.
-fn answer_of(names: &Names, name: &str, tree: &Tree) -> Option<Answer> {
-    Some(judge_type(names, &names.type_named(name)?.ty, tree, STEPS))
+fn answer_of(
+    alloc: Global,
+    definitions: &List<ToplevelDefinition>,
+    name: &str,
+    tree: &Tree,
+) -> Mem<Option<Answer>> {
+    let names = Names::new(alloc, definitions)?;
+    match names.type_named(name) {
+        None => Ok(None),
+        Some(definition) => {
+            let answer = judge(alloc, definitions.as_slice(), STEPS, &definition.ty, tree)?;
+            Ok(Some(answer))
+        }
+    }
 }
 
 // The same of the text's linked answer.
 fn judged(alloc: Global, name: &str, tree: &Tree) -> Result<Option<Answer>, Fail> {
     let reading = reading_of(alloc, TEXT)?;
     let linked = link_reading(alloc, &reading)?;
-    let names = Names::new(alloc, &linked.definitions)?;
-    Ok(answer_of(&names, name, tree))
+    Ok(answer_of(alloc, &linked.definitions, name, tree)?)
 }
 
 fn field(alloc: Global, name: &str, tree: Tree) -> Mem<Field> {
@@ -41,23 +55,23 @@ fn single(alloc: Global, name: &str, tree: Tree) -> Mem<Tree> {
 
 // A struct of a truth value and a whole number.
 fn truth_first(alloc: Global, truth: &str, number: &str) -> Mem<Tree> {
-    let mut fields = List::of(alloc, field(alloc, truth, Tree::TruthValue(true))?)?;
-    fields.add(field(alloc, number, Tree::WholeNumber(7))?)?;
+    let mut fields = List::of(alloc, field(alloc, truth, Tree::Truth(true))?)?;
+    fields.add(field(alloc, number, Tree::Whole(7))?)?;
     Ok(Tree::Struct(fields))
 }
 
 // The same fields in the other order.
 fn number_first(alloc: Global, truth: &str, number: &str) -> Mem<Tree> {
-    let mut fields = List::of(alloc, field(alloc, number, Tree::WholeNumber(7))?)?;
-    fields.add(field(alloc, truth, Tree::TruthValue(true))?)?;
+    let mut fields = List::of(alloc, field(alloc, number, Tree::Whole(7))?)?;
+    fields.add(field(alloc, truth, Tree::Truth(true))?)?;
     Ok(Tree::Struct(fields))
 }
 
 // Those fields and a third.
 fn with_third(alloc: Global) -> Mem<Tree> {
-    let mut fields = List::of(alloc, field(alloc, "a", Tree::TruthValue(true))?)?;
-    fields.add(field(alloc, "b", Tree::WholeNumber(7))?)?;
-    fields.add(field(alloc, "c", Tree::WholeNumber(7))?)?;
+    let mut fields = List::of(alloc, field(alloc, "a", Tree::Truth(true))?)?;
+    fields.add(field(alloc, "b", Tree::Whole(7))?)?;
+    fields.add(field(alloc, "c", Tree::Whole(7))?)?;
     Ok(Tree::Struct(fields))
 }
 
@@ -70,7 +84,7 @@ fn ranges(rt: HostRuntime) -> Result<(), Fail> {
         (7, Answer::Yes),
         (8, Answer::No),
     ] {
-        let answer = judged(rt.alloc(), "N", &Tree::WholeNumber(number))?;
+        let answer = judged(rt.alloc(), "N", &Tree::Whole(number))?;
         assert_eq!(rt; answer, Some(want), "at {number}");
     }
     Ok(())
@@ -78,11 +92,11 @@ fn ranges(rt: HostRuntime) -> Result<(), Fail> {
 
 #[test]
 fn other_kinds(rt: HostRuntime) -> Result<(), Fail> {
-    let number = Tree::WholeNumber(0);
+    let number = Tree::Whole(0);
     for (name, want) in [("N", Answer::Yes), ("C", Answer::No), ("S", Answer::No)] {
         assert_eq!(rt; judged(rt.alloc(), name, &number)?, Some(want), "of {name}");
     }
-    let truth = Tree::TruthValue(false);
+    let truth = Tree::Truth(false);
     for (name, want) in [("N", Answer::No), ("C", Answer::Yes), ("S", Answer::No)] {
         assert_eq!(rt; judged(rt.alloc(), name, &truth)?, Some(want), "of {name}");
     }
@@ -106,7 +120,7 @@ fn members(rt: HostRuntime) -> Result<(), Fail> {
 #[test]
 fn too_few_and_too_many(rt: HostRuntime) -> Result<(), Fail> {
     let alloc = rt.alloc();
-    let tree = single(alloc, "a", Tree::TruthValue(true))?;
+    let tree = single(alloc, "a", Tree::Truth(true))?;
     assert_eq!(rt; judged(alloc, "S", &tree)?, Some(Answer::No));
     let tree = with_third(alloc)?;
     assert_eq!(rt; judged(alloc, "S", &tree)?, Some(Answer::No));
@@ -116,12 +130,12 @@ fn too_few_and_too_many(rt: HostRuntime) -> Result<(), Fail> {
 #[test]
 fn through_names(rt: HostRuntime) -> Result<(), Fail> {
     let alloc = rt.alloc();
-    let tree = single(alloc, "a", single(alloc, "b", Tree::TruthValue(true))?)?;
+    let tree = single(alloc, "a", single(alloc, "b", Tree::Truth(true))?)?;
     assert_eq!(rt; judged(alloc, "A", &tree)?, Some(Answer::Yes));
-    let tree = single(alloc, "a", single(alloc, "b", Tree::WholeNumber(0))?)?;
+    let tree = single(alloc, "a", single(alloc, "b", Tree::Whole(0))?)?;
     assert_eq!(rt; judged(alloc, "A", &tree)?, Some(Answer::No));
     // Of a name that leads nowhere nothing is known.
-    let tree = single(alloc, "a", Tree::TruthValue(true))?;
+    let tree = single(alloc, "a", Tree::Truth(true))?;
     assert_eq!(rt; judged(alloc, "X", &tree)?, Some(Answer::Unknown));
     Ok(())
 }
