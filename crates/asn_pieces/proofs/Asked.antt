@@ -14,7 +14,7 @@ use Rattle.asn_rules.specs.ObjectRules.{object_rules_before}
 use Rattle.asn_rules.specs.HeaderRules.{header_rules_before}
 use Rattle.asn_rules.specs.DefinitionRules.{definition_rules_before}
 use Rattle.asn_rules.specs.declared.marks.Mark.TheVariants as mark
-use Rattle.asn_rules.specs.declared.names.TheConstants.{ASN_TAG, BRACE_GROUP, BRACE_TEXT, CHARACTER_STRING, CLASS_NAME, COMPONENT_PATH, DISTINGUISHED_VAL, DOTS, FIELD_STEP, IDENTIFIER, LITERAL_WORD, MARK_COMMA, MULTIPLE_VALUE_FIELD_ID, NUMBER_I128, NUMBER_U64, OBJECT_FIELD_IDENTIFIER, PATTERN_CONSTRAINT, QUOTED, RELATIONAL_CONSTRAINT, SETTING_PAIR, SET_OPERATOR, SINGLE_VALUE_FIELD_ID, SP, SYNTAX_GROUP, SYNTAX_ITEM, SYNTAX_LITERAL, UPPERCASE_IDENTIFIER, USER_DEFINED_CONSTRAINT}
+use Rattle.asn_rules.specs.declared.names.TheConstants.{ASN_TAG, BLOCK_COMMENT, BRACE_GROUP, BRACE_TEXT, CHARACTER_STRING, CLASS_NAME, COMMENT, COMMENT_BODY, COMPONENT_PATH, DISTINGUISHED_VAL, DOTS, ENUMERAL, EXTENSION_GROUP, FIELD_STEP, IDENTIFIER, ITEM_COMMENT, ITEM_NUMBER, LINE_BODY, LINE_COMMENT, LITERAL_WORD, MARK_COMMA, MULTIPLE_VALUE_FIELD_ID, NUMBER_I128, NUMBER_U64, OBJECT_FIELD_IDENTIFIER, PATTERN_CONSTRAINT, QUOTED, RELATIONAL_CONSTRAINT, SELECTION_TYPE_CHOICE, SEQUENCE_COMPONENT, SEQUENCE_OR_SET_MEMBER, SETTING_PAIR, SET_OPERATOR, SINGLE_VALUE_FIELD_ID, SP, SYNTAX_GROUP, SYNTAX_ITEM, SYNTAX_LITERAL, TITLE_CASE_IDENTIFIER, UPPERCASE_IDENTIFIER, USER_DEFINED_CONSTRAINT, VALUE_IDENTIFIER}
 use Rattle.asn_rules.proofs.Children.{asks, counts}
 use Rattle.asn_pieces.proofs.Firsts.{begins}
 use Rattle.asn_pieces.specs.Words.{operator_by, string_type_by}
@@ -106,3 +106,53 @@ item_asks_one = refl
 pub pair_is_guarded : rule_of whole_rules SETTING_PAIR ≡ guarded (words (whole_as mark.Basic (codes "Basic") ¦ whole_as mark.Date (codes "Date") ¦ whole_as mark.Year (codes "Year") ¦ whole_as mark.Time (codes "Time") ¦ whole_as mark.LocalOrUtc (codes "Local-or-UTC") ¦ whole_as mark.IntervalType (codes "Interval-type") ¦ whole_as mark.SePoint (codes "SE-point") ¦ whole_as mark.Recurrence (codes "Recurrence") ¦ whole_as mark.Midnight (codes "Midnight")) · literal (codes "=") · rule 8) IsSetting
 unfolding whole_rules lexical_rules_before value_rules_before type_rules_before constraint_rules_before
 pair_is_guarded = refl
+
+pub item_asks_name : asks whole_rules ENUMERAL IDENTIFIER ≡ true
+unfolding whole_rules lexical_rules_before value_rules_before type_rules_before constraint_rules_before object_rules_before header_rules_before definition_rules_before
+item_asks_name = refl
+
+pub item_number_asks_number : asks whole_rules ITEM_NUMBER NUMBER_I128 ≡ true
+unfolding whole_rules lexical_rules_before value_rules_before type_rules_before constraint_rules_before object_rules_before header_rules_before definition_rules_before
+item_number_asks_number = refl
+
+pub item_comment_asks_comment : asks whole_rules ITEM_COMMENT COMMENT ≡ true
+unfolding whole_rules lexical_rules_before value_rules_before type_rules_before constraint_rules_before object_rules_before header_rules_before definition_rules_before
+item_comment_asks_comment = refl
+
+pub block_asks_body : asks whole_rules BLOCK_COMMENT COMMENT_BODY ≡ true
+unfolding whole_rules lexical_rules_before value_rules_before type_rules_before constraint_rules_before object_rules_before header_rules_before definition_rules_before
+block_asks_body = refl
+
+pub line_asks_body : asks whole_rules LINE_COMMENT LINE_BODY ≡ true
+unfolding whole_rules lexical_rules_before value_rules_before type_rules_before constraint_rules_before object_rules_before header_rules_before definition_rules_before
+line_asks_body = refl
+
+pub selection_asks_option : asks whole_rules SELECTION_TYPE_CHOICE VALUE_IDENTIFIER ≡ true
+unfolding whole_rules lexical_rules_before value_rules_before type_rules_before constraint_rules_before object_rules_before header_rules_before definition_rules_before
+selection_asks_option = refl
+
+pub selection_asks_choice : asks whole_rules SELECTION_TYPE_CHOICE TITLE_CASE_IDENTIFIER ≡ true
+unfolding whole_rules lexical_rules_before value_rules_before type_rules_before constraint_rules_before object_rules_before header_rules_before definition_rules_before
+selection_asks_choice = refl
+
+pub title_asks_blanks : asks whole_rules TITLE_CASE_IDENTIFIER SP ≡ true
+unfolding whole_rules lexical_rules_before value_rules_before type_rules_before constraint_rules_before object_rules_before header_rules_before definition_rules_before
+title_asks_blanks = refl
+
+pub group_asks_component : asks whole_rules EXTENSION_GROUP SEQUENCE_COMPONENT ≡ true
+unfolding whole_rules lexical_rules_before value_rules_before type_rules_before constraint_rules_before object_rules_before header_rules_before definition_rules_before
+group_asks_component = refl
+
+pub member_asks_name : asks whole_rules SEQUENCE_OR_SET_MEMBER IDENTIFIER ≡ true
+unfolding whole_rules lexical_rules_before value_rules_before type_rules_before constraint_rules_before object_rules_before header_rules_before definition_rules_before
+member_asks_name = refl
+
+-- a comment is a block or a line
+pub comment_asks_one : counts whole_rules COMMENT (λ q. nat_eq q BLOCK_COMMENT || nat_eq q LINE_COMMENT) 1 None ≡ true
+unfolding whole_rules lexical_rules_before value_rules_before type_rules_before constraint_rules_before object_rules_before header_rules_before definition_rules_before
+comment_asks_one = refl
+
+-- a component is taken over or a member
+pub component_asks_one : counts whole_rules SEQUENCE_COMPONENT (λ q. nat_eq q SEQUENCE_OR_SET_MEMBER || nat_eq q COMPONENT_PATH) 1 None ≡ true
+unfolding whole_rules lexical_rules_before value_rules_before type_rules_before constraint_rules_before object_rules_before header_rules_before definition_rules_before
+component_asks_one = refl

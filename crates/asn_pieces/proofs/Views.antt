@@ -7,10 +7,10 @@ use Rattle.asn_guards.specs.declared.asked.Guard.TheVariants.{IsSetting}
 use Rattle.asn_rules.specs.Children.{Is}
 use Rattle.asn_rules.specs.Expression.{rule}
 use Rattle.asn_rules.specs.Forms.{literal, whole_as, words, ◌¦◌, ◌·◌}
-use Rattle.asn_rules.specs.Nodes.{at_children, child_among, child_of, first_child_of}
+use Rattle.asn_rules.specs.Nodes.{at_child, at_children, child_among, child_of, first_child_of}
 use Rattle.asn_rules.specs.Whole.{whole_rules}
 use Rattle.asn_rules.specs.declared.marks.Mark.TheVariants as mark
-use Rattle.asn_rules.specs.declared.names.TheConstants.{ASN_TAG, BRACE_GROUP, BRACE_TEXT, CHARACTER_STRING, CLASS_NAME, COMPONENT_PATH, DISTINGUISHED_VAL, DOTS, FIELD_STEP, IDENTIFIER, LITERAL_WORD, MARK_COMMA, MULTIPLE_VALUE_FIELD_ID, NUMBER_I128, NUMBER_U64, OBJECT_FIELD_IDENTIFIER, PATTERN_CONSTRAINT, QUOTED, RELATIONAL_CONSTRAINT, SETTING_PAIR, SET_OPERATOR, SINGLE_VALUE_FIELD_ID, SP, SYNTAX_GROUP, SYNTAX_ITEM, SYNTAX_LITERAL, UPPERCASE_IDENTIFIER, USER_DEFINED_CONSTRAINT}
+use Rattle.asn_rules.specs.declared.names.TheConstants.{ASN_TAG, BLOCK_COMMENT, BRACE_GROUP, BRACE_TEXT, CHARACTER_STRING, CLASS_NAME, COMMENT, COMMENT_BODY, COMPONENT_PATH, DISTINGUISHED_VAL, DOTS, ENUMERAL, EXTENSION_GROUP, FIELD_STEP, IDENTIFIER, ITEM_COMMENT, ITEM_NUMBER, LINE_BODY, LINE_COMMENT, LITERAL_WORD, MARK_COMMA, MULTIPLE_VALUE_FIELD_ID, NUMBER_I128, NUMBER_U64, OBJECT_FIELD_IDENTIFIER, PATTERN_CONSTRAINT, QUOTED, RELATIONAL_CONSTRAINT, SELECTION_TYPE_CHOICE, SEQUENCE_COMPONENT, SEQUENCE_OR_SET_MEMBER, SETTING_PAIR, SET_OPERATOR, SINGLE_VALUE_FIELD_ID, SP, SYNTAX_GROUP, SYNTAX_ITEM, SYNTAX_LITERAL, TITLE_CASE_IDENTIFIER, UPPERCASE_IDENTIFIER, USER_DEFINED_CONSTRAINT, VALUE_IDENTIFIER}
 use Rattle.asn_rules.specs.declared.node.Node.{Node}
 use Rattle.asn_rules.specs.declared.node.Node.TheViews.{out-Node}
 use Rattle.asn_rules.proofs.Children.{bounds, guard_passed, has_child}
@@ -21,6 +21,7 @@ use Rattle.asn_pieces.proofs.Asked as asked
 use Rattle.asn_pieces.proofs.Firsts.{first_passes, has_first}
 use Rattle.asn_pieces.specs.Fields.{path_names_in}
 use Rattle.asn_pieces.specs.Settings.{pair_by}
+use Rattle.asn_pieces.specs.Types.{first_member}
 use Rattle.asn_pieces.specs.Words.{operator_by, string_type_by}
 
 pub tag_has_number : (text : List ℕ) (n : Node) → Is whole_rules text ASN_TAG n → IsSome (child_of n NUMBER_U64)
@@ -129,3 +130,60 @@ names_there text (n ∷ ns) found some e f = go (nat_eq (out-Node n).rule IDENTI
 
 pub path_is_joined : (text : List ℕ) (n : Node) (found : List (List ℕ)) → Is whole_rules text COMPONENT_PATH n → path_names_in text (out-Node n).children ≡ Some found → joined found ≡ None → ⊥
 path_is_joined text n found is e f = names_there text (out-Node n).children found (path_has_name text n is) e f
+
+pub item_has_name : (text : List ℕ) (n : Node) → Is whole_rules text ENUMERAL n → IsSome (child_of n IDENTIFIER)
+item_has_name text n is = has_child whole_rules text ENUMERAL IDENTIFIER n is asked.item_asks_name
+
+pub item_number_has_number : (text : List ℕ) (n : Node) → Is whole_rules text ITEM_NUMBER n → IsSome (child_of n NUMBER_I128)
+item_number_has_number text n is = has_child whole_rules text ITEM_NUMBER NUMBER_I128 n is asked.item_number_asks_number
+
+pub item_comment_has_comment : (text : List ℕ) (n : Node) → Is whole_rules text ITEM_COMMENT n → IsSome (child_of n COMMENT)
+item_comment_has_comment text n is = has_child whole_rules text ITEM_COMMENT COMMENT n is asked.item_comment_asks_comment
+
+pub block_has_body : (text : List ℕ) (n : Node) → Is whole_rules text BLOCK_COMMENT n → IsSome (child_of n COMMENT_BODY)
+block_has_body text n is = has_child whole_rules text BLOCK_COMMENT COMMENT_BODY n is asked.block_asks_body
+
+pub line_has_body : (text : List ℕ) (n : Node) → Is whole_rules text LINE_COMMENT n → IsSome (child_of n LINE_BODY)
+line_has_body text n is = has_child whole_rules text LINE_COMMENT LINE_BODY n is asked.line_asks_body
+
+pub selection_has_option : (text : List ℕ) (n : Node) → Is whole_rules text SELECTION_TYPE_CHOICE n → IsSome (child_of n VALUE_IDENTIFIER)
+selection_has_option text n is = has_child whole_rules text SELECTION_TYPE_CHOICE VALUE_IDENTIFIER n is asked.selection_asks_option
+
+pub selection_has_choice : (text : List ℕ) (n : Node) → Is whole_rules text SELECTION_TYPE_CHOICE n → IsSome (child_of n TITLE_CASE_IDENTIFIER)
+selection_has_choice text n is = has_child whole_rules text SELECTION_TYPE_CHOICE TITLE_CASE_IDENTIFIER n is asked.selection_asks_choice
+
+pub title_has_blanks : (text : List ℕ) (n : Node) → Is whole_rules text TITLE_CASE_IDENTIFIER n → IsSome (child_of n SP)
+title_has_blanks text n is = has_child whole_rules text TITLE_CASE_IDENTIFIER SP n is asked.title_asks_blanks
+
+pub group_has_component : (text : List ℕ) (n : Node) → Is whole_rules text EXTENSION_GROUP n → IsSome (child_of n SEQUENCE_COMPONENT)
+group_has_component text n is = has_child whole_rules text EXTENSION_GROUP SEQUENCE_COMPONENT n is asked.group_asks_component
+
+pub member_has_name : (text : List ℕ) (n : Node) → Is whole_rules text SEQUENCE_OR_SET_MEMBER n → IsSome (child_of n IDENTIFIER)
+member_has_name text n is = has_child whole_rules text SEQUENCE_OR_SET_MEMBER IDENTIFIER n is asked.member_asks_name
+
+-- a comment that is no block is a line
+pub comment_has_line : (text : List ℕ) (n : Node) → Is whole_rules text COMMENT n → child_of n BLOCK_COMMENT ≡ None → IsSome (child_of n LINE_COMMENT)
+comment_has_line text n is e =
+    let one = (bounds whole_rules text COMMENT (λ q. nat_eq q BLOCK_COMMENT || nat_eq q LINE_COMMENT) 1 None n is asked.comment_asks_one).0 in
+    let first = without BLOCK_COMMENT (λ q. nat_eq q LINE_COMMENT) (out-Node n).children e in
+    some_among LINE_COMMENT (out-Node n).children (omega (arith, one, first))
+
+-- a component that is no member is taken over
+path_there : (text : List ℕ) (n : Node) → Is whole_rules text SEQUENCE_COMPONENT n → child_of n SEQUENCE_OR_SET_MEMBER ≡ None → IsSome (child_of n COMPONENT_PATH)
+path_there text n is e =
+    let one = (bounds whole_rules text SEQUENCE_COMPONENT (λ q. nat_eq q SEQUENCE_OR_SET_MEMBER || nat_eq q COMPONENT_PATH) 1 None n is asked.component_asks_one).0 in
+    let first = without SEQUENCE_OR_SET_MEMBER (λ q. nat_eq q COMPONENT_PATH) (out-Node n).children e in
+    some_among COMPONENT_PATH (out-Node n).children (omega (arith, one, first))
+
+-- where no node has a member, none that is found has
+no_member : (ns : List Node) (c : Node) → first_member ns ≡ None → child_among ns SEQUENCE_COMPONENT ≡ Some c → child_of c SEQUENCE_OR_SET_MEMBER ≡ None
+no_member [] c e f = absurd cc
+no_member (n ∷ ns) c e f = go (child_of n SEQUENCE_OR_SET_MEMBER) refl (nat_eq (out-Node n).rule SEQUENCE_COMPONENT) (λ e f. no_member ns c e f) e f
+  where
+    go : (o : Option Node) → child_of n SEQUENCE_OR_SET_MEMBER ≡ o → (t : Bool) → (first_member ns ≡ None → child_among ns SEQUENCE_COMPONENT ≡ Some c → child_of c SEQUENCE_OR_SET_MEMBER ≡ None) → at_child o (first_member ns) (λ member. Some member) ≡ None → cond t (Some n) (child_among ns SEQUENCE_COMPONENT) ≡ Some c → child_of c SEQUENCE_OR_SET_MEMBER ≡ None
+    go (Some m) same t again e f = absurd cc
+    go None same true again e f = let is : n ≡ c = cc in subst (λ c. child_of c SEQUENCE_OR_SET_MEMBER ≡ None) is same
+    go None same false again e f = again e f
+
+pub component_has_path : (text : List ℕ) (n c : Node) → first_member (out-Node n).children ≡ None → child_of n SEQUENCE_COMPONENT ≡ Some c → Is whole_rules text SEQUENCE_COMPONENT c → IsSome (child_of c COMPONENT_PATH)
+component_has_path text n c e f is = path_there text c is (no_member (out-Node n).children c e f)

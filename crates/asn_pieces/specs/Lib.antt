@@ -5,3 +5,5 @@ pub mod Fields
 pub mod Constraints
 pub mod Settings
 pub mod Syntax
+pub mod Enumerations
+pub mod Types

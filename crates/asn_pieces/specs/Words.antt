@@ -6,7 +6,7 @@ use Rattle.asn_kinds.specs.declared.constraints.SetOperator.{SetOperator}
 use Rattle.asn_kinds.specs.declared.constraints.SetOperator.TheVariants.{Except, Intersection, Union}
 use Rattle.asn_markers.specs.declared.ExtensionMarker.{ExtensionMarker}
 use Rattle.asn_markers.specs.declared.OptionalMarker.{OptionalMarker}
-use Rattle.asn_rules.specs.declared.names.TheConstants.{EXTENSION_MARK, MARK_ABSENT, MARK_BMP_STRING, MARK_EXCEPT, MARK_GENERAL_STRING, MARK_GRAPHIC_STRING, MARK_IA5_STRING, MARK_INTERSECTION, MARK_NUMERIC_STRING, MARK_OPTIONAL, MARK_PRESENT, MARK_PRINTABLE_STRING, MARK_TELETEX_STRING, MARK_UNION, MARK_UNIQUE, MARK_UNIVERSAL_STRING, MARK_UTF8_STRING, MARK_VIDEOTEX_STRING, MARK_VISIBLE_STRING}
+use Rattle.asn_rules.specs.declared.names.TheConstants.{EXTENSION_MARK, EXTENSION_TAIL, MARK_ABSENT, MARK_BMP_STRING, MARK_EXCEPT, MARK_GENERAL_STRING, MARK_GRAPHIC_STRING, MARK_HIGH_OPEN, MARK_IA5_STRING, MARK_INTERSECTION, MARK_LOW_OPEN, MARK_NUMERIC_STRING, MARK_OPTIONAL, MARK_PARTIAL, MARK_PRESENT, MARK_PRINTABLE_STRING, MARK_TELETEX_STRING, MARK_UNION, MARK_UNIQUE, MARK_UNIVERSAL_STRING, MARK_UTF8_STRING, MARK_VIDEOTEX_STRING, MARK_VISIBLE_STRING}
 use Rattle.asn_rules.specs.declared.node.Node.{Node}
 use Rattle.asn_rules.specs.declared.node.Node.TheViews.{out-Node}
 use Rattle.asn_rules.specs.Nodes.{at_child, child_of, first_child_of, the}
@@ -24,6 +24,21 @@ extension_of n = at_child (child_of n EXTENSION_MARK) None (λ mark. Some (recor
 -- whether the word UNIQUE stands behind a class's field (X.681 9.6)
 abbrev pub unique_of : Node → Bool
 unique_of n = at_child (child_of n MARK_UNIQUE) false (λ word. true)
+
+-- whether `...` stands before the listed components, so that those not listed are free (X.680 51.8.6)
+abbrev pub partial_of : Node → Bool
+partial_of n = at_child (child_of n MARK_PARTIAL) false (λ mark. true)
+
+-- whether an end of a range is left out, which a mark beside it tells (X.680 51.4)
+abbrev pub low_open_of : Node → Bool
+low_open_of n = at_child (child_of n MARK_LOW_OPEN) false (λ mark. true)
+
+abbrev pub high_open_of : Node → Bool
+high_open_of n = at_child (child_of n MARK_HIGH_OPEN) false (λ mark. true)
+
+-- whether an extension marker stands behind a set of values (X.680 50.1)
+abbrev pub extensible_of : Node → Bool
+extensible_of n = at_child (child_of n EXTENSION_TAIL) false (λ tail. true)
 
 -- what a listed component's word asks of its presence (X.680 51.8.9)
 abbrev pub presence_of : Node → ComponentPresence

@@ -1,6 +1,6 @@
 //! Words and marks that tell something by standing there.
 
-ghost use Rattle.asn_pieces.specs.Words.{extension_of, operator_by, operator_of, optional_of, presence_of, string_type_by, string_type_of, unique_of};
+ghost use Rattle.asn_pieces.specs.Words.{extensible_of, extension_of, high_open_of, low_open_of, operator_by, operator_of, optional_of, partial_of, presence_of, string_type_by, string_type_of, unique_of};
 ghost use Rattle.asn_rules.specs.Children.{Is};
 ghost use Rattle.asn_rules.specs.Whole.{whole_rules};
 ghost use Rattle.asn_rules.specs.declared.names.TheConstants.{CHARACTER_STRING, SET_OPERATOR};
@@ -37,6 +37,46 @@ pub fn is_unique(node: &Node) -> bool
     ensures { result ≡ unique_of node.now }
 {
     match node.child(names::MARK_UNIQUE) {
+        Some(_) => true,
+        None => false,
+    }
+}
+
+/// Whether `...` stands before the listed components, so that those not listed are free (X.680 51.8.6).
+pub fn is_partial(node: &Node) -> bool
+    ensures { result ≡ partial_of node.now }
+{
+    match node.child(names::MARK_PARTIAL) {
+        Some(_) => true,
+        None => false,
+    }
+}
+
+/// Whether the lower end of a range is left out, which a mark behind it tells (X.680 51.4).
+pub fn is_low_open(node: &Node) -> bool
+    ensures { result ≡ low_open_of node.now }
+{
+    match node.child(names::MARK_LOW_OPEN) {
+        Some(_) => true,
+        None => false,
+    }
+}
+
+/// Whether the upper end of a range is left out, which a mark before it tells (X.680 51.4).
+pub fn is_high_open(node: &Node) -> bool
+    ensures { result ≡ high_open_of node.now }
+{
+    match node.child(names::MARK_HIGH_OPEN) {
+        Some(_) => true,
+        None => false,
+    }
+}
+
+/// Whether an extension marker stands behind a set of values (X.680 50.1).
+pub fn is_extensible(node: &Node) -> bool
+    ensures { result ≡ extensible_of node.now }
+{
+    match node.child(names::EXTENSION_TAIL) {
         Some(_) => true,
         None => false,
     }
