@@ -1,10 +1,12 @@
 //! The syntax of a class off its node.
 
-use crate::parts::{first_wrong, node_of};
-use asn_memory::{List, Mem, Text};
+use crate::parts::first_wrong;
+use asn_literals::read_node;
+use asn_memory::{List, Mem, OutOfMemory, Text};
 use asn_pieces::read_syntax;
 use asn_rules::names;
-use asn_syntax::{ObjectFieldIdentifier, SyntaxExpression, SyntaxToken};
+use asn_syntax::{InformationObjectSyntax, ObjectFieldIdentifier, SyntaxExpression, SyntaxToken};
+use asn_text::Input;
 use std::alloc::Global;
 
 fn literal(alloc: Global, word: &str) -> Mem<SyntaxExpression> {
@@ -46,10 +48,17 @@ fn all(alloc: Global) -> Mem<List<SyntaxExpression>> {
     Ok(all)
 }
 
+fn syntax_of<'a>(alloc: Global, input: Input<'a>) -> Mem<InformationObjectSyntax> {
+    let text = input.inner().as_bytes();
+    match read_node(alloc, input, 99, names::SYNTAX_PART, "syntax_of") {
+        Ok((_, node)) => read_syntax(alloc, text, &node),
+        Err(_) => Err(OutOfMemory),
+    }
+}
+
 fn is_read(alloc: Global) -> Mem<bool> {
     let text = "WITH SYNTAX { ID &id, [TYPE &Type [ , MORE]] END }";
-    let node = node_of(alloc, text, names::SYNTAX_PART)?;
-    let syntax = read_syntax(alloc, text.as_bytes(), &node)?;
+    let syntax = syntax_of(alloc, Input::from(text))?;
     let wanted = all(alloc)?;
     Ok(syntax.expressions == wanted)
 }

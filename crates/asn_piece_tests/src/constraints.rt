@@ -1,33 +1,65 @@
 //! Relations, patterns, texts and settings off their nodes.
 
-use crate::parts::{first_wrong, node_of};
-use asn_memory::Mem;
+use crate::parts::first_wrong;
+use asn_kinds::{PatternConstraint, RelationalConstraint, UserDefinedConstraint};
+use asn_literals::read_node;
+use asn_memory::{List, Mem, OutOfMemory};
 use asn_pieces::{read_pattern, read_relations, read_settings, read_user_defined};
 use asn_rules::names;
-use asn_settings::{BasicSettings, PropertyAndSettingsPair, RecurrenceSettings, YearSettings};
+use asn_settings::{
+    BasicSettings, PropertyAndSettingsPair, PropertySettings, RecurrenceSettings, YearSettings,
+};
+use asn_text::Input;
 use std::alloc::Global;
+
+fn relations<'a>(alloc: Global, input: Input<'a>) -> Mem<List<RelationalConstraint>> {
+    let text = input.inner().as_bytes();
+    match read_node(alloc, input, 99, names::RELATIONS, "relations") {
+        Ok((_, node)) => read_relations(alloc, text, &node),
+        Err(_) => Err(OutOfMemory),
+    }
+}
 
 fn relation(alloc: Global, at: usize, name: &str, level: usize) -> Mem<bool> {
     let text = "{@a, @. b , @..c-d}";
-    let node = node_of(alloc, text, names::RELATIONS)?;
-    let found = read_relations(alloc, text.as_bytes(), &node)?;
+    let found = relations(alloc, Input::from(text))?;
     match found.get(at) {
         None => Ok(false),
         Some(relation) => Ok(relation.field_name.as_str() == name && relation.level == level),
     }
 }
 
+fn pattern_of<'a>(alloc: Global, input: Input<'a>) -> Mem<PatternConstraint> {
+    let text = input.inner().as_bytes();
+    match read_node(alloc, input, 99, names::PATTERN_CONSTRAINT, "pattern_of") {
+        Ok((_, node)) => read_pattern(alloc, text, &node),
+        Err(_) => Err(OutOfMemory),
+    }
+}
+
 fn pattern(alloc: Global) -> Mem<bool> {
     let text = "(PATTERN \"[a-z]#\"\"(1,8)\"\"x\")";
-    let node = node_of(alloc, text, names::PATTERN_CONSTRAINT)?;
-    let pattern = read_pattern(alloc, text.as_bytes(), &node)?;
+    let pattern = pattern_of(alloc, Input::from(text))?;
     Ok(pattern.pattern.as_str() == "[a-z]#\"\"(1,8)\"\"x")
+}
+
+fn user_defined<'a>(alloc: Global, input: Input<'a>) -> Mem<UserDefinedConstraint> {
+    let text = input.inner().as_bytes();
+    match read_node(
+        alloc,
+        input,
+        99,
+        names::USER_DEFINED_CONSTRAINT,
+        "user_defined",
+    ) {
+        Ok((_, node)) => read_user_defined(alloc, text, &node),
+        Err(_) => Err(OutOfMemory),
+    }
 }
 
 fn told_in_words(alloc: Global) -> Mem<bool> {
     let text = "CONSTRAINED BY -- x -- { a {b} -- } -- {}}";
-    let node = node_of(alloc, text, names::USER_DEFINED_CONSTRAINT)?;
-    let told = read_user_defined(alloc, text.as_bytes(), &node)?;
+    let told = user_defined(alloc, Input::from(text))?;
     Ok(told.definition.as_str() == " a {b} -- ")
 }
 
@@ -46,10 +78,23 @@ fn texts(rt: HostRuntime) {
     );
 }
 
+fn settings_of<'a>(alloc: Global, input: Input<'a>) -> Mem<PropertySettings> {
+    let text = input.inner().as_bytes();
+    match read_node(
+        alloc,
+        input,
+        99,
+        names::PROPERTY_SETTINGS_CONSTRAINT,
+        "settings_of",
+    ) {
+        Ok((_, node)) => read_settings(alloc, text, &node),
+        Err(_) => Err(OutOfMemory),
+    }
+}
+
 fn setting(alloc: Global, at: usize, wanted: PropertyAndSettingsPair) -> Mem<bool> {
     let text = "SETTINGS \" Basic=Rec-Interval Year= L05 Recurrence=/*=*/R7 \"";
-    let node = node_of(alloc, text, names::PROPERTY_SETTINGS_CONSTRAINT)?;
-    let told = read_settings(alloc, text.as_bytes(), &node)?;
+    let told = settings_of(alloc, Input::from(text))?;
     match told.property_settings_list.get(at) {
         None => Ok(false),
         Some(pair) => Ok(*pair == wanted),

@@ -1,20 +1,36 @@
 //! Names, items of enumerations and selections off their nodes.
 
-use crate::parts::{first_wrong, node_of};
-use asn_memory::{List, Mem, Text};
+use crate::parts::first_wrong;
+use asn_kinds::ChoiceSelectionType;
+use asn_literals::read_node;
+use asn_memory::{List, Mem, OutOfMemory, Text};
 use asn_pieces::{
     WrittenItem, read_class_name, read_component_path, read_field_path, read_group_name,
     read_items, read_literal_word, read_selection,
 };
-use asn_rules::{Node, names};
+use asn_rules::names;
 use asn_syntax::ObjectFieldIdentifier;
+use asn_text::Input;
 use std::alloc::Global;
 
 const REFERENCE: &str = "ATTR.&id . &Type (1)";
 
+fn field_path<'a>(alloc: Global, input: Input<'a>) -> Mem<List<ObjectFieldIdentifier>> {
+    let text = input.inner().as_bytes();
+    match read_node(
+        alloc,
+        input,
+        99,
+        names::INFORMATION_OBJECT_FIELD_REFERENCE,
+        "field_path",
+    ) {
+        Ok((_, node)) => read_field_path(alloc, text, &node),
+        Err(_) => Err(OutOfMemory),
+    }
+}
+
 fn fields(alloc: Global) -> Mem<bool> {
-    let node = node_of(alloc, REFERENCE, names::INFORMATION_OBJECT_FIELD_REFERENCE)?;
-    let path = read_field_path(alloc, REFERENCE.as_bytes(), &node)?;
+    let path = field_path(alloc, Input::from(REFERENCE))?;
     let mut wanted = List::of(
         alloc,
         ObjectFieldIdentifier::SingleValue(Text::new(alloc, "&id")?),
@@ -23,22 +39,43 @@ fn fields(alloc: Global) -> Mem<bool> {
     Ok(path == wanted)
 }
 
+fn class_name<'a>(alloc: Global, input: Input<'a>) -> Mem<Text> {
+    let text = input.inner().as_bytes();
+    match read_node(alloc, input, 99, names::CLASS_NAME, "class_name") {
+        Ok((_, node)) => read_class_name(alloc, text, &node),
+        Err(_) => Err(OutOfMemory),
+    }
+}
+
 fn class(alloc: Global) -> Mem<bool> {
-    let node = node_of(alloc, REFERENCE, names::CLASS_NAME)?;
-    let name = read_class_name(alloc, REFERENCE.as_bytes(), &node)?;
+    let name = class_name(alloc, Input::from(REFERENCE))?;
     Ok(name.as_str() == "ATTR")
 }
 
+fn path_of<'a>(alloc: Global, input: Input<'a>) -> Mem<Text> {
+    let text = input.inner().as_bytes();
+    match read_node(alloc, input, 99, names::COMPONENT_PATH, "path_of") {
+        Ok((_, node)) => read_component_path(alloc, text, &node),
+        Err(_) => Err(OutOfMemory),
+    }
+}
+
 fn component_path(alloc: Global, text: &str, wanted: &str) -> Mem<bool> {
-    let node = node_of(alloc, text, names::COMPONENT_PATH)?;
-    let path = read_component_path(alloc, text.as_bytes(), &node)?;
+    let path = path_of(alloc, Input::from(text))?;
     Ok(path.as_str() == wanted)
+}
+
+fn word_of<'a>(alloc: Global, input: Input<'a>) -> Mem<Text> {
+    let text = input.inner().as_bytes();
+    match read_node(alloc, input, 99, names::LITERAL_WORD, "word_of") {
+        Ok((_, node)) => read_literal_word(alloc, text, &node),
+        Err(_) => Err(OutOfMemory),
+    }
 }
 
 fn literal_word(alloc: Global) -> Mem<bool> {
     let text = " ID-2 {";
-    let node = node_of(alloc, text, names::LITERAL_WORD)?;
-    let word = read_literal_word(alloc, text.as_bytes(), &node)?;
+    let word = word_of(alloc, Input::from(text))?;
     Ok(word.as_str() == "ID-2")
 }
 
@@ -57,16 +94,36 @@ fn names_of_fields(rt: HostRuntime) {
     );
 }
 
+fn selection_of<'a>(alloc: Global, input: Input<'a>) -> Mem<ChoiceSelectionType> {
+    let text = input.inner().as_bytes();
+    match read_node(
+        alloc,
+        input,
+        99,
+        names::SELECTION_TYPE_CHOICE,
+        "selection_of",
+    ) {
+        Ok((_, node)) => read_selection(alloc, text, &node),
+        Err(_) => Err(OutOfMemory),
+    }
+}
+
 fn selection(alloc: Global) -> Mem<bool> {
     let text = "alt < Choice";
-    let node = node_of(alloc, text, names::SELECTION_TYPE_CHOICE)?;
-    let selection = read_selection(alloc, text.as_bytes(), &node)?;
+    let selection = selection_of(alloc, Input::from(text))?;
     Ok(selection.choice_name.as_str() == "Choice" && selection.selected_option.as_str() == "alt")
 }
 
+fn group_name<'a>(alloc: Global, input: Input<'a>) -> Mem<Text> {
+    let text = input.inner().as_bytes();
+    match read_node(alloc, input, 99, names::EXTENSION_GROUP, "group_name") {
+        Ok((_, node)) => read_group_name(alloc, text, &node),
+        Err(_) => Err(OutOfMemory),
+    }
+}
+
 fn group(alloc: Global, text: &str, wanted: &str) -> Mem<bool> {
-    let node = node_of(alloc, text, names::EXTENSION_GROUP)?;
-    let name = read_group_name(alloc, text.as_bytes(), &node)?;
+    let name = group_name(alloc, Input::from(text))?;
     Ok(name.as_str() == wanted)
 }
 
@@ -92,8 +149,7 @@ fn selections_and_groups(rt: HostRuntime) {
     );
 }
 
-const ITEMS: &str =
-    "ENUMERATED { a(5), -- five --\n b -- x\n, c /* d /* e */ */ , ..., -- no -- f(-1) }";
+const ITEMS: &str = "a(5), -- five --\n b(-1) -- x\n, c /* d /* e */ */ , ...";
 
 fn is_item(
     item: &WrittenItem,
@@ -108,41 +164,31 @@ fn is_item(
     item.name.as_str() == name && (item.number == number && told == description)
 }
 
-fn root(
-    alloc: Global,
-    at: usize,
-    name: &str,
-    number: Option<i128>,
-    told: Option<&str>,
-) -> Mem<bool> {
-    let node = node_of(alloc, ITEMS, names::ENUMERATED)?;
-    item(alloc, &node, 0, at, name, number, told)
+fn items_of<'a>(alloc: Global, input: Input<'a>) -> Mem<List<WrittenItem>> {
+    let text = input.inner().as_bytes();
+    match read_node(alloc, input, 99, names::ENUMERAL_LIST, "items_of") {
+        Ok((_, node)) => read_items(alloc, text, &node),
+        Err(_) => Err(OutOfMemory),
+    }
 }
 
 fn item(
     alloc: Global,
-    node: &Node,
-    list: usize,
     at: usize,
     name: &str,
     number: Option<i128>,
     told: Option<&str>,
 ) -> Mem<bool> {
-    match node.nth_child(names::ENUMERAL_LIST, list) {
+    let items = items_of(alloc, Input::from(ITEMS))?;
+    match items.get(at) {
         None => Ok(false),
-        Some(list) => {
-            let items = read_items(alloc, ITEMS.as_bytes(), list)?;
-            match items.get(at) {
-                None => Ok(false),
-                Some(item) => Ok(is_item(item, name, number, told)),
-            }
-        }
+        Some(item) => Ok(is_item(item, name, number, told)),
     }
 }
 
-fn addition(alloc: Global) -> Mem<bool> {
-    let node = node_of(alloc, ITEMS, names::ENUMERATED)?;
-    item(alloc, &node, 1, 0, "f", Some(-1), None)
+fn count_of_items(alloc: Global) -> Mem<bool> {
+    let items = items_of(alloc, Input::from(ITEMS))?;
+    Ok(items.len() == 3)
 }
 
 #[test]
@@ -150,10 +196,10 @@ fn items(rt: HostRuntime) {
     let alloc = rt.alloc();
     assert_eq!(rt;
         first_wrong(&[
-            root(alloc, 0, "a", Some(5), Some(" five ")),
-            root(alloc, 1, "b", None, None),
-            root(alloc, 2, "c", None, None),
-            addition(alloc),
+            item(alloc, 0, "a", Some(5), Some(" five ")),
+            item(alloc, 1, "b", Some(-1), None),
+            item(alloc, 2, "c", None, None),
+            count_of_items(alloc),
         ]),
         None
     );

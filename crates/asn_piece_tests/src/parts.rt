@@ -1,10 +1,7 @@
 //! What tests of several modules ask of an answer, and rows of a test.
 
-use asn_literals::read_node;
-use asn_memory::{Mem, OutOfMemory};
-use asn_rules::Node;
+use asn_memory::Mem;
 use asn_text::{ErrorKind, ErrorTree, Input, ParseFault, ParserResult};
-use std::alloc::Global;
 
 /// The place of the first row that does not answer true, counted from 0; None where all do.
 pub fn first_wrong(rows: &[Mem<bool>]) -> Option<usize> {
@@ -49,12 +46,4 @@ pub fn is_too_deep<O: Drop>(answer: ParserResult<O>) -> bool {
 
 pub fn at<'a>(text: &'a str) -> Input<'a> {
     Input::from(text)
-}
-
-/// The node of the rule where the text begins. Want of memory stands for a text where there is none.
-pub fn node_of(alloc: Global, text: &str, rule: u8) -> Mem<Node> {
-    match read_node(alloc, at(text), 99, rule, "node_of") {
-        Ok((_, node)) => Ok(node),
-        Err(_) => Err(OutOfMemory),
-    }
 }

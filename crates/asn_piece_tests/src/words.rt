@@ -1,19 +1,29 @@
 //! Words and marks off their nodes.
 
-use crate::parts::{first_wrong, node_of};
+use crate::parts::{at, first_wrong};
 use asn_kinds::ComponentPresence;
-use asn_memory::Mem;
+use asn_literals::read_node;
+use asn_markers::ExtensionMarker;
+use asn_memory::{Mem, OutOfMemory};
 use asn_pieces::{
     is_extensible, is_high_open, is_low_open, is_partial, is_unique, read_extension, read_presence,
     read_string_type,
 };
 use asn_rules::names;
+use asn_text::Input;
 use asn_words::CharacterStringType;
 use std::alloc::Global;
 
+fn presence_of<'a>(alloc: Global, input: Input<'a>) -> Mem<ComponentPresence> {
+    match read_node(alloc, input, 99, names::SUBSET_MEMBER, "presence_of") {
+        Ok((_, node)) => Ok(read_presence(&node)),
+        Err(_) => Err(OutOfMemory),
+    }
+}
+
 fn presence(alloc: Global, text: &str, wanted: ComponentPresence) -> Mem<bool> {
-    let node = node_of(alloc, text, names::SUBSET_MEMBER)?;
-    Ok(read_presence(&node) == wanted)
+    let word = presence_of(alloc, at(text))?;
+    Ok(word == wanted)
 }
 
 #[test]
@@ -30,9 +40,17 @@ fn words_of_presence(rt: HostRuntime) {
     );
 }
 
+fn string_type<'a>(alloc: Global, input: Input<'a>) -> Mem<CharacterStringType> {
+    let text = input.inner().as_bytes();
+    match read_node(alloc, input, 99, names::CHARACTER_STRING, "string_type") {
+        Ok((_, node)) => Ok(read_string_type(text, &node)),
+        Err(_) => Err(OutOfMemory),
+    }
+}
+
 fn string(alloc: Global, text: &str, wanted: CharacterStringType) -> Mem<bool> {
-    let node = node_of(alloc, text, names::CHARACTER_STRING)?;
-    Ok(read_string_type(text.as_bytes(), &node) == wanted)
+    let ty = string_type(alloc, at(text))?;
+    Ok(ty == wanted)
 }
 
 #[test]
@@ -74,29 +92,78 @@ fn further_string_types(rt: HostRuntime) {
     );
 }
 
+fn unique_in<'a>(alloc: Global, input: Input<'a>) -> Mem<bool> {
+    match read_node(alloc, input, 99, names::CLASS_FIELD, "unique_in") {
+        Ok((_, node)) => Ok(is_unique(&node)),
+        Err(_) => Err(OutOfMemory),
+    }
+}
+
 fn unique(alloc: Global, text: &str, wanted: bool) -> Mem<bool> {
-    let node = node_of(alloc, text, names::CLASS_FIELD)?;
-    Ok(is_unique(&node) == wanted)
+    let found = unique_in(alloc, at(text))?;
+    Ok(found == wanted)
+}
+
+fn extension_in<'a>(alloc: Global, input: Input<'a>) -> Mem<Option<ExtensionMarker>> {
+    match read_node(alloc, input, 99, names::STRUCT_BODY, "extension_in") {
+        Ok((_, node)) => Ok(read_extension(&node)),
+        Err(_) => Err(OutOfMemory),
+    }
 }
 
 fn extended(alloc: Global, text: &str, wanted: bool) -> Mem<bool> {
-    let node = node_of(alloc, text, names::STRUCT_BODY)?;
-    Ok(read_extension(&node).is_some() == wanted)
+    let found = extension_in(alloc, at(text))?;
+    Ok(found.is_some() == wanted)
+}
+
+fn partial_in<'a>(alloc: Global, input: Input<'a>) -> Mem<bool> {
+    match read_node(
+        alloc,
+        input,
+        99,
+        names::MULTIPLE_TYPE_CONSTRAINTS,
+        "partial_in",
+    ) {
+        Ok((_, node)) => Ok(is_partial(&node)),
+        Err(_) => Err(OutOfMemory),
+    }
 }
 
 fn partial(alloc: Global, text: &str, wanted: bool) -> Mem<bool> {
-    let node = node_of(alloc, text, names::MULTIPLE_TYPE_CONSTRAINTS)?;
-    Ok(is_partial(&node) == wanted)
+    let found = partial_in(alloc, at(text))?;
+    Ok(found == wanted)
+}
+
+fn low_in<'a>(alloc: Global, input: Input<'a>) -> Mem<bool> {
+    match read_node(alloc, input, 99, names::RANGE_BODY, "low_in") {
+        Ok((_, node)) => Ok(is_low_open(&node)),
+        Err(_) => Err(OutOfMemory),
+    }
+}
+
+fn high_in<'a>(alloc: Global, input: Input<'a>) -> Mem<bool> {
+    match read_node(alloc, input, 99, names::RANGE_BODY, "high_in") {
+        Ok((_, node)) => Ok(is_high_open(&node)),
+        Err(_) => Err(OutOfMemory),
+    }
 }
 
 fn open(alloc: Global, text: &str, low: bool, high: bool) -> Mem<bool> {
-    let node = node_of(alloc, text, names::RANGE_BODY)?;
-    Ok(is_low_open(&node) == low && is_high_open(&node) == high)
+    let low_open = low_in(alloc, at(text))?;
+    let high_open = high_in(alloc, at(text))?;
+    Ok(low_open == low && high_open == high)
+}
+
+fn tail_in<'a>(alloc: Global, input: Input<'a>) -> Mem<bool> {
+    match read_node(alloc, input, 99, names::ELEMENT_SET, "tail_in") {
+        Ok((_, node)) => Ok(is_extensible(&node)),
+        Err(_) => Err(OutOfMemory),
+    }
 }
 
 fn extensible(alloc: Global, text: &str, wanted: bool) -> Mem<bool> {
-    let node = node_of(alloc, text, names::ELEMENT_SET)?;
-    Ok(is_extensible(&node) == wanted)
+    let found = tail_in(alloc, at(text))?;
+    Ok(found == wanted)
 }
 
 #[test]
