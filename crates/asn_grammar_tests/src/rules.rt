@@ -265,39 +265,9 @@ fn takes_rows_whole(rt: HostRuntime) {
         ("time_chars", "12", false),
         ("time_chars", "T", false),
         ("time_value", "\"12:30Z\"", true),
-        ("struct_item", "a 5", true),
-        ("struct_item", "a-b {1, c TRUE}", true),
-        ("struct_item", "-/**/5", true),
-        ("struct_item", "a 5, b 6", false),
-        ("struct_item", "A 5", false),
         ("binary", "'01 0'B", true),
         ("hexadecimal", "'0A F'H", true),
         ("hexadecimal", "'0G'H", false),
-        ("named_bits", "{}", true),
-        ("named_bits", "{a, -- c --b-1 }", true),
-        ("named_bits", "{a,}", false),
-        ("named_bits", "{A}", false),
-        ("bit_string_value", "'0110'B", true),
-        ("bit_string_value", "/**/'A1 F'H", true),
-        ("bit_string_value", "{a, b}", true),
-        ("bit_string_value", "{1, 2}", false),
-        ("bit_string_value", "'012'B", false),
-        ("boolean_value", "TRUE", true),
-        ("boolean_value", "-- c --FALSE", true),
-        ("boolean_value", "True", false),
-        ("boolean_value", "TRUE-X", false),
-        ("integer_value", "- 007", true),
-        (
-            "integer_value",
-            "170141183460469231731687303715884105727",
-            true,
-        ),
-        (
-            "integer_value",
-            "170141183460469231731687303715884105728",
-            false,
-        ),
-        ("integer_value", "1.5", false),
         ("quoted", "\"a\"\"b\n\u{e9}\"", true),
         ("octet_number", "00255", true),
         ("octet_number", "256", false),
@@ -314,6 +284,24 @@ fn takes_rows_whole(rt: HostRuntime) {
             "SEQUENCE (SIZE (1..5)) OF CHOICE { a NULL, ..., [[ 2: b REAL ]] }",
             true,
         ),
+    ] {
+        match reader_rule(name) {
+            Some(rule) => {
+                assert_eq!(rt;
+                    takes_all_of_whole(rt.alloc(), text, rule),
+                    want,
+                    "{name} at {text}"
+                );
+                assert!(rt; is_tried_alike(rt.alloc(), text, rule), "{name} at {text}");
+            }
+            None => assert!(rt; false, "{name}"),
+        }
+    }
+}
+
+#[test]
+fn takes_further_rows_whole(rt: HostRuntime) {
+    for (name, text, want) in [
         ("asn1_type", "BIT STRING { a(0) } ({a})", true),
         (
             "sequence_or_set_member",
@@ -401,6 +389,54 @@ fn takes_rows_whole(rt: HostRuntime) {
             "M DEFINITIONS ::= BEGIN A{T} ::= SET { a T } o C ::= {&x 1} END",
             true,
         ),
+    ] {
+        match reader_rule(name) {
+            Some(rule) => {
+                assert_eq!(rt;
+                    takes_all_of_whole(rt.alloc(), text, rule),
+                    want,
+                    "{name} at {text}"
+                );
+                assert!(rt; is_tried_alike(rt.alloc(), text, rule), "{name} at {text}");
+            }
+            None => assert!(rt; false, "{name}"),
+        }
+    }
+}
+
+#[test]
+fn takes_value_rows_whole(rt: HostRuntime) {
+    for (name, text, want) in [
+        ("struct_item", "a 5", true),
+        ("struct_item", "a-b {1, c TRUE}", true),
+        ("struct_item", "-/**/5", true),
+        ("struct_item", "a 5, b 6", false),
+        ("struct_item", "A 5", false),
+        ("named_bits", "{}", true),
+        ("named_bits", "{a, -- c --b-1 }", true),
+        ("named_bits", "{a,}", false),
+        ("named_bits", "{A}", false),
+        ("bit_string_value", "'0110'B", true),
+        ("bit_string_value", "/**/'A1 F'H", true),
+        ("bit_string_value", "{a, b}", true),
+        ("bit_string_value", "{1, 2}", false),
+        ("bit_string_value", "'012'B", false),
+        ("boolean_value", "TRUE", true),
+        ("boolean_value", "-- c --FALSE", true),
+        ("boolean_value", "True", false),
+        ("boolean_value", "TRUE-X", false),
+        ("integer_value", "- 007", true),
+        (
+            "integer_value",
+            "170141183460469231731687303715884105727",
+            true,
+        ),
+        (
+            "integer_value",
+            "170141183460469231731687303715884105728",
+            false,
+        ),
+        ("integer_value", "1.5", false),
     ] {
         match reader_rule(name) {
             Some(rule) => {
