@@ -1,60 +1,13 @@
 //! Tests of the plain program that computes meaning: types, trees, and what the standard says of them.
 //!
-//! A room above asn_judge, which nothing stands on. One module for each topic; types, constraints, values, trees and definitions
-//! are made by small functions in modules of their own, each of its parts.
+//! A room above asn_shapes, which nothing stands on. One module for each topic.
 #![tactic(auto)]
 
 #[cfg(test)]
-mod alphabets;
-#[cfg(test)]
-mod arithmetic;
-#[cfg(test)]
-mod components;
-#[cfg(test)]
-mod constraints;
-#[cfg(test)]
-mod definitions;
-#[cfg(test)]
-mod denoting;
-#[cfg(test)]
-mod heads;
-#[cfg(test)]
-mod judging;
-#[cfg(test)]
-mod laws;
-#[cfg(test)]
-mod names;
-#[cfg(test)]
-mod numbers;
-#[cfg(test)]
-mod objects;
-#[cfg(test)]
-mod pairs;
-#[cfg(test)]
 mod parts;
-#[cfg(test)]
-mod places;
-#[cfg(test)]
-mod ranges;
 #[cfg(test)]
 mod rows;
 #[cfg(test)]
-mod same;
-#[cfg(test)]
 mod shapes;
 #[cfg(test)]
-mod singles;
-#[cfg(test)]
-mod sizes;
-#[cfg(test)]
-mod structures;
-#[cfg(test)]
-mod templates;
-#[cfg(test)]
-mod trees;
-#[cfg(test)]
-mod types;
-#[cfg(test)]
 mod values;
-#[cfg(test)]
-mod written;
