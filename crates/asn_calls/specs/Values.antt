@@ -63,7 +63,7 @@ chosen_text pick v w set = option_and_then (λ s. option_and_then (chosen_of_tex
 abbrev pub chosen : Pick → ASN1Value → ASN1Value → Option (List (ℕ × ℕ)) → Option ASN1Value
 chosen pick v w set = option_or (option_map value.Integer (chosen_number pick v w)) (option_map value.String (chosen_text pick v w set))
 
--- the lesser of two whole numbers, or of two texts of one character by their numbers in the set; on a tie the first
+-- the lesser of two whole numbers, or of two texts of one byte by their numbers in the set; on a tie the first
 abbrev pub lesser : ASN1Value → ASN1Value → Option (List (ℕ × ℕ)) → Option ASN1Value
 lesser v w set = chosen Lesser v w set
 

@@ -1,4 +1,5 @@
 pub mod Bits
 pub mod Braces
 pub mod Denotation
+pub mod Texts
 pub mod inner

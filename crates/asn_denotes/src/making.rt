@@ -63,7 +63,7 @@ pub fn octets_tree(octets: List<u8>) -> Tree
 pub fn text_tree(text: Text) -> Tree
     ensures { shown_tree result ≡ Characters (chars text) }
 {
-    Tree::Text(text)
+    Tree::Texted(text)
 }
 
 /// An object identifier.
@@ -71,7 +71,7 @@ pub fn text_tree(text: Text) -> Tree
 pub fn identifier_tree(identifier: ObjectIdentifierValue) -> Tree
     ensures { shown_tree result ≡ ObjectIdentifierArcs (map arc_tree identifier.0) }
 {
-    Tree::ObjectIdentifier(identifier)
+    Tree::Oid(identifier)
 }
 
 /// A value of which nothing is known.

@@ -3,7 +3,8 @@
 ghost use Rattle.asn_heads.specs.Values.{shown_value};
 ghost use Rattle.asn_heads.specs.Written.{shown_written};
 ghost use Rattle.asn_denotes.specs.Braces.{shown_values};
-ghost use Rattle.asn_denotes.specs.inner.Rows.{octet_number, quadruple_code, text_characters};
+ghost use Rattle.asn_denotes.specs.Texts.{text_characters};
+ghost use Rattle.asn_denotes.specs.inner.Rows.{octet_number, quadruple_code};
 ghost use Rattle.asn_meaning.specs.Rows.{character, octet_written, quadruple, string_written};
 ghost use Rattle.std.specs.Option.{option_map};
 ghost use Rattle.std.specs.Prelude.{◌≡◌, ◌∷◌, [], encode_utf8, IfOk};

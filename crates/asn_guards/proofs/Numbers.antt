@@ -5,7 +5,7 @@ use Rattle.std.specs.List.{list_all}
 use Rattle.std.proofs.lemmas.Bool.Decides.{Decides-ltb, nat_tests}
 use Rattle.std.specs.Int.{w128}
 use Rattle.asn_guards.specs.Lexical.{is_digit}
-use Rattle.asn_guards.specs.Guards.{is_empty, are_digits, decimal, is_negative, unsigned, spelled, fitting, integer, number, natural}
+use Rattle.asn_guards.specs.Guards.{are_digits, decimal, is_negative, unsigned, spelled, fitting, integer, number, natural}
 use Rattle.asn_guards.specs.inner.Sizes.{at_some, lengthened_by, sized, below, narrowed}
 
 -- a digit behind a number
@@ -90,9 +90,6 @@ by_size negative bs = go (are_digits bs) (nat_lt (decimal bs) (2 ^ 128)) (Decide
     go true true d = refl
     go true false d = let high : 2 ^ 128 ≤ decimal bs = grind (arith, d) in sym (too_large negative (decimal bs) high)
     go false l d = refl
-
-pub number_minus : (bs digits : List ℕ) (size : Option ℕ) → size ≡ natural 128 digits → bs ≡ 45 ∷ digits → number bs ≡ at_some size (λ m. fitting 127 (neg_ℤ (pos m)))
-number_minus bs digits size s e = ap number e ∙ sym (by_size true digits) ∙ ap (λ o. at_some o (λ m. fitting 127 (neg_ℤ (pos m)))) (sym s)
 
 pub number_plain : (bs : List ℕ) (size : Option ℕ) → size ≡ natural 128 bs → is_negative bs ≡ false → number bs ≡ at_some size (λ m. fitting 127 (pos m))
 number_plain [] size s e = sym (ap (λ o. at_some o (λ m. fitting 127 (pos m))) s)

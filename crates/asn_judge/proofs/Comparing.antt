@@ -1,5 +1,5 @@
 -- Trees part by part.
-use Rattle.std.proofs.Common.{◌≡◌, ◌<◌, ◌≤◌, ℕ, zero, suc, ◌+◌, ◌-◌, List, [], ◌∷◌, ◌++◌, drop, take, length, get_or, Bool, true, false, Option, Some, None, refl, sym, ap, ◌∙◌, arith}
+use Rattle.std.proofs.Common.{◌≡◌, ◌<◌, ◌≤◌, ℕ, suc, ◌+◌, ◌-◌, List, [], ◌∷◌, ◌++◌, drop, take, length, get_or, Bool, true, false, Option, Some, None, refl, sym, ap, ◌∙◌, arith}
 use Rattle.std.specs.Prelude.{ℤ, ◌&&◌, ◌||◌, map}
 use Rattle.std.specs.Bool.{Decides}
 use Rattle.std.specs.Str.{bytes_eq, chars, IsUtf8}
@@ -275,10 +275,10 @@ bits_same t u bits e = ap (λ x. same_tree x u) (bits_shown t bits e)
 pub octets_same : (t : Tree) (u : ValueTree) (octets : List ℕ) → t ≡ own.Octets octets → same_tree (shown_tree t) u ≡ same_tree (Octets octets) u
 octets_same t u octets e = ap (λ x. same_tree x u) (octets_shown t octets e)
 
-pub text_same : (t : Tree) (u : ValueTree) (text : List ℕ) → t ≡ own.Text text → same_tree (shown_tree t) u ≡ same_tree (Characters (chars text)) u
+pub text_same : (t : Tree) (u : ValueTree) (text : List ℕ) → t ≡ own.Texted text → same_tree (shown_tree t) u ≡ same_tree (Characters (chars text)) u
 text_same t u text e = ap (λ x. same_tree x u) (text_shown t text e)
 
-pub arcs_same : (t : Tree) (u : ValueTree) (x : ObjectIdentifierValue) → t ≡ own.ObjectIdentifier x → same_tree (shown_tree t) u ≡ same_tree (ObjectIdentifierArcs (map arc_tree x.0)) u
+pub arcs_same : (t : Tree) (u : ValueTree) (x : ObjectIdentifierValue) → t ≡ own.Oid x → same_tree (shown_tree t) u ≡ same_tree (ObjectIdentifierArcs (map arc_tree x.0)) u
 arcs_same t u x e = ap (λ x. same_tree x u) (arcs_shown t x e)
 
 pub struct_same : (t : Tree) (u : ValueTree) (fs : List Field) → t ≡ own.Struct fs → same_tree (shown_tree t) u ≡ same_tree (Struct (shown_fields fs)) u

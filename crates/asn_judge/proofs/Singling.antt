@@ -1,11 +1,10 @@
 -- Single values and ranges.
-use Rattle.std.proofs.Common.{◌≡◌, ℕ, List, [], ◌∷◌, Bool, true, false, Option, Some, None, refl, sym, ap, ◌∙◌}
+use Rattle.std.proofs.Common.{◌≡◌, ℕ, List, [], ◌∷◌, Bool, false, Option, Some, None, refl, sym, ap, ◌∙◌}
 use Rattle.std.specs.Prelude.{ℤ, pos}
 use Rattle.std.specs.List.{list_any}
-use Rattle.std.specs.Option.{option_map}
 use Rattle.std.specs.Str.{bytes_eq}
 use Rattle.asn_tree.specs.declared.values.ASN1Value.{ASN1Value}
-use Rattle.asn_judge.specs.inner.Characters.{character_in, characters_in, only_item}
+use Rattle.asn_judge.specs.inner.Characters.{character_in, characters_in}
 use Rattle.asn_judge.specs.inner.Singles.{whole_in}
 use Rattle.asn_meaning.specs.Answers.{Answer, Yes, No, Unknown, answer_of, once, unless_all, Denotation}
 use Rattle.asn_meaning.specs.Constraints.{compared, number_asked, occurs, range_holds, single_holds}

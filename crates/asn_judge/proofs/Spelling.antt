@@ -1,13 +1,13 @@
 -- The characters of texts.
-use Rattle.std.proofs.Common.{◌≡◌, ◌<◌, ◌≤◌, ℕ, ◌+◌, List, [], ◌∷◌, drop, length, get_or, Bool, true, false, Option, Some, None, nat_eq, append-nil, refl, sym, ap, ◌∙◌}
+use Rattle.std.proofs.Common.{◌≡◌, ◌<◌, ℕ, ◌+◌, List, [], ◌∷◌, drop, length, get_or, Bool, true, false, Some, None, nat_eq, append-nil, refl, sym, ap, ◌∙◌}
 use Rattle.std.specs.Prelude.{◌&&◌, ◌||◌, encode_utf8}
-use Rattle.std.specs.List.{list_all, list_any}
+use Rattle.std.specs.List.{list_any}
 use Rattle.std.specs.Str.{bytes_eq, chars}
 use Rattle.std.proofs.Math.Utf8.{scalar}
 use Rattle.std.proofs.lemmas.Str.{chars-encodes}
-use Rattle.std.proofs.lemmas.List.{drop_more, drop_all}
+use Rattle.std.proofs.lemmas.List.{drop_more}
 use Rattle.asn_judge.specs.inner.Characters.{character_in, characters_in, only_item}
-use Rattle.asn_meaning.specs.Answers.{Answer, Yes, answer_of, once}
+use Rattle.asn_meaning.specs.Answers.{Yes, answer_of, once}
 use Rattle.asn_meaning.specs.Judge.{in_set, is_within}
 use Rattle.asn_meaning.specs.ValueTrees.{ValueTree, NullValue, TruthValue, WholeNumber, ItemNumber, RealNumber, Bits, Octets, Characters, ObjectIdentifierArcs, Struct, Elements, Alternative, Opaque}
 

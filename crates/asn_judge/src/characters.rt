@@ -67,7 +67,7 @@ fn text_of_one(alloc: Global, character: char) -> Mem<Text>
 fn text_tree(text: Text) -> Tree
     ensures { shown_tree result ≡ Characters (chars text) }
 {
-    Tree::Text(text)
+    Tree::Texted(text)
 }
 
 /// The tree of a text of one character.

@@ -3,28 +3,27 @@ use Rattle.std.specs.Prelude.{nat_eq, not, is_some, if◌then◌else◌}
 use Rattle.std.specs.Option.{option_map}
 use Rattle.std.specs.Str.{bytes_eq}
 use Rattle.std.proofs.Common.{◌≡◌, ℕ, suc, Bool, true, false, ◌||◌, List, [], ◌∷◌, ◌++◌, map, Option, Some, None, refl, sym, subst, ap, ◌∙◌}
-use Rattle.asn_tree.specs.Passes.{member_parts, struct_parts, rewritten_element, rewritten_member, rewritten_option, rewritten_set}
+use Rattle.asn_tree.specs.Passes.{struct_parts, rewritten_element, rewritten_member, rewritten_option, rewritten_set}
 use Rattle.asn_tree.specs.declared.constraints.Constraint.{Constraint}
 use Rattle.asn_tree.specs.declared.constraints.ElementOrSetOperation.{ElementOrSetOperation}
 use Rattle.asn_tree.specs.declared.constraints.SubtypeElement.{SubtypeElement}
-use Rattle.asn_tree.specs.declared.types.ASN1Type.{ASN1Type}
 use Rattle.asn_tree.specs.declared.types.ChoiceOption.{ChoiceOption}
 use Rattle.asn_kinds.specs.declared.types.ChoiceSelectionType.{ChoiceSelectionType}
-use Rattle.asn_tree.specs.declared.types.SequenceOrSetMember.{SequenceOrSetMember, out-SequenceOrSetMember}
+use Rattle.asn_tree.specs.declared.types.SequenceOrSetMember.{SequenceOrSetMember}
 use Rattle.asn_tree.specs.declared.values.ASN1Value.{ASN1Value}
 use Rattle.asn_meaning.specs.Answers.{Answer, No, Unknown, answer_of, both, each, once}
 use Rattle.asn_meaning.specs.Definitions.{Definitions}
 use Rattle.asn_meaning.specs.Kinds.{Kind, ChoiceKind, FieldKind, ListKind, ReferenceKind, SelectionKind, StructKind, kind_of}
 use Rattle.asn_meaning.specs.Layers.{MemberLayer, OptionLayer, StructLayer}
 use Rattle.asn_meaning.specs.Meaning.{Meaning, Member, Parent, ValuesOf, CharactersOf}
-use Rattle.asn_meaning.specs.Members.{and_then, components_of, is_addition_at, may_be_absent, member_named, member_names, member_place, members_at, members_from, members_of, moved, put_in, root_members, struct_in, struct_of, written_member}
-use Rattle.asn_meaning.specs.Names.{FieldType, Open, Fixed, Lead, IsHead, LeadsTo, IsLost, class_field_type, field_lead, head_at, head_from, lead, lead_at, leading, option_named, options_in, options_of, plain_name, selection_target}
+use Rattle.asn_meaning.specs.Members.{and_then, components_of, is_addition_at, may_be_absent, member_named, member_names, member_place, members_at, members_from, members_of, moved, put_in, root_members, struct_in, written_member}
+use Rattle.asn_meaning.specs.Names.{FieldType, Open, Fixed, Lead, IsHead, LeadsTo, IsLost, field_lead, head_at, head_from, lead, lead_at, leading, option_named, options_in, options_of, selection_target}
 use Rattle.asn_meaning.specs.Numbers.{Chain}
 use Rattle.asn_meaning.specs.Scopes.{Scope, Empty, Place, Target, bare}
 use Rattle.asn_meaning.specs.Shapes.{Asking, choice_judged, fields_judged, fits_at, head_fits, is_of_kind, kind_or_parts, list_judged, member_judged, option_place, parts_fit, struct_judged, trees_judged}
 use Rattle.asn_meaning.specs.Tags.{TagChange, BothAlike, DifferInTags, PlacesAlike, ScopesAlike, tagged, tagged_value, tagging}
-use Rattle.asn_meaning.specs.ValueTrees.{ValueTree, Struct, Elements, Alternative, Fields, field_named, ValueTrees, no_tree, tree, are_among}
-use Rattle.asn_meaning.proofs.Alike.{AllAlike, append_alike, each_alike, filter_alike, find_alike, kind_alike, map_alike, mapped_same, once_alike, once_both, once_mapped, scope_alike}
+use Rattle.asn_meaning.specs.ValueTrees.{ValueTree, Struct, Elements, Alternative, field_named, ValueTrees, no_tree, tree, are_among}
+use Rattle.asn_meaning.proofs.Alike.{AllAlike, append_alike, each_alike, filter_alike, find_alike, kind_alike, map_alike, mapped_same, once_alike, once_both, scope_alike}
 use Rattle.asn_meaning.proofs.AlikeNames.{FieldTypesAlike, TargetsAlike, bare_alike, class_field_alike, option_named_kept, plain_place, reference_alike}
 use Rattle.asn_meaning.proofs.TagLayers.{each_constraint, kind_kept, member_layer, member_out, option_layer}
 
@@ -66,9 +65,6 @@ field_lead_alike : (a b : Option FieldType) → BothAlike FieldTypesAlike a b �
 field_lead_alike None b e = ap field_lead e
 field_lead_alike (Some Open) b (y, r, e) = ap field_lead (e ∙ ap Some r)
 field_lead_alike (Some (Fixed ty)) b (y, r, e) = (bare Empty (tagged r.0 ty), bare_alike Empty Empty refl r.0 ty, ap field_lead (e ∙ ap Some r.1))
-
-abbrev pub OptionsOfAlike : Place → Place → Type 0
-OptionsOfAlike h k = (f : TagChange) × (options_of k ≡ map (rewritten_option (tagging f)) (options_of h))
 
 options_in_kept : (f : TagChange) (k : Kind) → options_in (kind_kept f k) ≡ map (rewritten_option (tagging f)) (options_in k)
 options_in_kept f (ChoiceKind options) = refl

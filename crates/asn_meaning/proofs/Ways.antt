@@ -1,7 +1,7 @@
 -- Heads, and constraints in a row: what a theorem on replaced names stands on.
-use Rattle.std.proofs.Common.{◌≡◌, ℕ, zero, suc, ◌+◌, List, [], ◌∷◌, ◌++◌, Option, Some, refl, sym, subst, ap, ◌∙◌, arith}
+use Rattle.std.proofs.Common.{◌≡◌, ℕ, zero, suc, ◌+◌, List, [], ◌∷◌, ◌++◌, Option, Some, refl, sym, subst, ap, ◌∙◌}
 use Rattle.asn_tree.specs.declared.constraints.Constraint.{Constraint}
-use Rattle.asn_meaning.specs.Answers.{both, Within}
+use Rattle.asn_meaning.specs.Answers.{both}
 use Rattle.asn_meaning.specs.Constraints.{constraint_holds, all_hold}
 use Rattle.asn_meaning.specs.Definitions.{Definitions}
 use Rattle.asn_meaning.specs.Judge.{nothing_known, step, meaning}
@@ -11,9 +11,9 @@ use Rattle.asn_meaning.specs.Numbers.{Numbers}
 use Rattle.asn_meaning.specs.Ranges.{narrowed, narrowed_by_all}
 use Rattle.asn_meaning.specs.Scopes.{Scope, Place}
 use Rattle.asn_meaning.specs.ValueTrees.{ValueTree}
-use Rattle.asn_meaning.proofs.Answering.{both_through, one_of}
+use Rattle.asn_meaning.proofs.Answering.{both_through}
 use Rattle.asn_meaning.proofs.More.{Leads, lead_more}
-use Rattle.asn_meaning.proofs.Steps.{one_more, more_known}
+use Rattle.asn_meaning.proofs.Steps.{one_more}
 
 -- constraints of a place follow the type's own
 module _ (M : Meaning) (scope : Scope) (head : Place) where
@@ -51,11 +51,3 @@ head_is_head defs zero p h e = absurd (nothing_found p h e)
 head_is_head defs (suc n) p h e =
     leads_on _ _ (lead_more (meaning defs n) (meaning defs (suc n)) (one_more defs n) defs h)
     (found_head (meaning defs n) defs p h (lead defs (meaning defs n) p) refl (head_is_head defs n) (step_head defs (meaning defs n) p h e))
-
--- ---- two numbers of steps find the same
-
-pub heads_agree : (defs : Definitions) (n m : ℕ) (p h k : Place) → (meaning defs n).head p ≡ Some h → (meaning defs m).head p ≡ Some k → h ≡ k
-heads_agree defs n m p h k e f =
-    let same : m + n ≡ n + m = omega arith in
-    one_of _ _ ((meaning defs (n + m)).head p) h k ((more_known defs n m).head p)
-    (subst (λ z. Within ((meaning defs m).head p) ((meaning defs z).head p)) same ((more_known defs m n).head p)) e f

@@ -1,5 +1,5 @@
 -- The elements of a set in order, within a number of steps.
-use Rattle.std.proofs.Common.{◌≡◌, ℕ, ◌-◌, ◌<◌, zero, suc, [], Option, Some, None, refl, ap, ◌∙◌, arith}
+use Rattle.std.proofs.Common.{◌≡◌, ℕ, ◌-◌, ◌<◌, zero, suc, [], Some, None, refl, ap, ◌∙◌, arith}
 use Rattle.asn_tree.specs.declared.constraints.ElementOrSetOperation.{ElementOrSetOperation, out-ElementOrSetOperation}
 use Rattle.asn_tree.specs.declared.constraints.ElementOrSetOperation.TheVariants as set
 use Rattle.asn_tree.specs.declared.constraints.SetOperation.{SetOperation, out-SetOperation}

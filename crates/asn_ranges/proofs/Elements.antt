@@ -1,11 +1,11 @@
 -- The whole numbers of an element, by its form.
-use Rattle.std.proofs.Common.{◌≡◌, Bool, [], Option, Some, refl, ap, ◌∙◌}
+use Rattle.std.proofs.Common.{◌≡◌, Bool, [], Option, Some, ap, ◌∙◌}
 use Rattle.asn_tree.specs.declared.constraints.SubtypeElement.{SubtypeElement, out-SubtypeElement}
 use Rattle.asn_tree.specs.declared.constraints.SubtypeElement.TheVariants as element
 use Rattle.asn_tree.specs.declared.types.ASN1Type.{ASN1Type}
 use Rattle.asn_tree.specs.declared.values.ASN1Value.{ASN1Value}
 use Rattle.asn_meaning.specs.Meaning.{Meaning, Parent}
-use Rattle.asn_meaning.specs.Numbers.{Numbers, every_number, no_number}
+use Rattle.asn_meaning.specs.Numbers.{every_number, no_number}
 use Rattle.asn_meaning.specs.Ranges.{number_of_single, numbers_at_element, range, value_place}
 use Rattle.asn_meaning.specs.Scopes.{Scope}
 use Rattle.asn_ranges.specs.inner.Joining.{numbers_of_element}

@@ -9,7 +9,7 @@ use Rattle.asn_meaning.specs.Definitions.{Definitions}
 use Rattle.asn_meaning.specs.Judge.{meaning, nothing_known, step}
 use Rattle.asn_meaning.specs.Kinds.{kind_of}
 use Rattle.asn_meaning.specs.Meaning.{Meaning, Parent, ValuesOf}
-use Rattle.asn_meaning.specs.Names.{Lead, IsHead, LeadsTo, IsLost, lead}
+use Rattle.asn_meaning.specs.Names.{IsHead, LeadsTo, IsLost, lead}
 use Rattle.asn_meaning.specs.Numbers.{Chain, Numbers, in_both, lifted, number_sets, ranked}
 use Rattle.asn_meaning.specs.Placed.{listed}
 use Rattle.asn_meaning.specs.Ranges.{all_constraints, is_free, narrowed, narrowed_at, narrowed_by_all, numbers_at, numbers_at_head, numbers_before, numbers_from_lead, numbers_in_set}

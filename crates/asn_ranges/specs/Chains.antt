@@ -1,5 +1,5 @@
 -- The chain of meaning that one of the code stands for.
-use Rattle.std.specs.Prelude.{List, map}
+use Rattle.std.specs.Prelude.{map}
 use Rattle.asn_kinds.specs.declared.constraints.SetOperator.{SetOperator}
 use Rattle.asn_tree.specs.declared.constraints.SubtypeElement.{SubtypeElement}
 use Rattle.asn_ranges.specs.declared.chains.Chain.{Chain as LentChain}

@@ -1,5 +1,4 @@
 -- The set of whole numbers of meaning that a set of the code stands for.
-use Rattle.std.specs.Prelude.{ℕ}
 use Rattle.asn_ranges.specs.declared.sets.Numbers.{Numbers as OwnNumbers, Numbers-F, fold-Numbers}
 use Rattle.asn_meaning.specs.Numbers.{Numbers, every_number, no_number, one_number, numbers_from, numbers_to, in_both, in_either, in_first, above_least, below_greatest}
 use Rattle.asn_meaning.specs.Ranges.{numbers_among}

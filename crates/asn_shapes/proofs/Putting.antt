@@ -71,9 +71,6 @@ begun : (b : Option (List Member)) → and_then (Some []) b ≡ b
 begun None = refl
 begun (Some ns) = refl
 
-then_lost : (out : List Member) (b : Option (List Member)) → and_then (Some out) (and_then None b) ≡ None
-then_lost out b = refl
-
 then_found : (out ms : List Member) (b : Option (List Member)) → and_then (Some out) (and_then (Some ms) b) ≡ and_then (Some (out ++ ms)) b
 then_found out ms None = refl
 then_found out ms (Some ns) = ap Some (sym (regrouped out ms ns))

@@ -20,8 +20,8 @@ level (Tree-F.Item i) = ValueTree.ItemNumber i
 level (Tree-F.Real x) = ValueTree.RealNumber x.mantissa x.base x.exponent
 level (Tree-F.Bits bits) = ValueTree.Bits bits
 level (Tree-F.Octets octets) = ValueTree.Octets octets
-level (Tree-F.Text text) = ValueTree.Characters (chars text)
-level (Tree-F.ObjectIdentifier x) = ValueTree.ObjectIdentifierArcs (map arc_tree x.0)
+level (Tree-F.Texted text) = ValueTree.Characters (chars text)
+level (Tree-F.Oid x) = ValueTree.ObjectIdentifierArcs (map arc_tree x.0)
 level (Tree-F.Struct fs) = ValueTree.Struct (shown_fields fs)
 level (Tree-F.Elements ts) = ValueTree.Elements (shown_trees ts)
 level (Tree-F.Alternative name t) = ValueTree.Alternative name (shown_tree t)
@@ -39,8 +39,8 @@ shown_is t = fold_out-Tree ValueTree Named tree_at field_at t ∙ go (out-Tree t
     go (Tree-F.Real x) = refl
     go (Tree-F.Bits bits) = refl
     go (Tree-F.Octets octets) = refl
-    go (Tree-F.Text text) = refl
-    go (Tree-F.ObjectIdentifier x) = refl
+    go (Tree-F.Texted text) = refl
+    go (Tree-F.Oid x) = refl
     go (Tree-F.Struct fs) = refl
     go (Tree-F.Elements ts) = refl
     go (Tree-F.Alternative name t) = refl
@@ -100,11 +100,11 @@ bits_shown t bits e = shown_is t ∙ ap level (ap out-Tree e ∙ own.outs-Bits b
 pub octets_shown : (t : Tree) (octets : List ℕ) → t ≡ own.Octets octets → shown_tree t ≡ level (Tree-F.Octets octets)
 octets_shown t octets e = shown_is t ∙ ap level (ap out-Tree e ∙ own.outs-Octets octets)
 
-pub text_shown : (t : Tree) (text : List ℕ) → t ≡ own.Text text → shown_tree t ≡ level (Tree-F.Text text)
-text_shown t text e = shown_is t ∙ ap level (ap out-Tree e ∙ own.outs-Text text)
+pub text_shown : (t : Tree) (text : List ℕ) → t ≡ own.Texted text → shown_tree t ≡ level (Tree-F.Texted text)
+text_shown t text e = shown_is t ∙ ap level (ap out-Tree e ∙ own.outs-Texted text)
 
-pub arcs_shown : (t : Tree) (x : ObjectIdentifierValue) → t ≡ own.ObjectIdentifier x → shown_tree t ≡ level (Tree-F.ObjectIdentifier x)
-arcs_shown t x e = shown_is t ∙ ap level (ap out-Tree e ∙ own.outs-ObjectIdentifier x)
+pub arcs_shown : (t : Tree) (x : ObjectIdentifierValue) → t ≡ own.Oid x → shown_tree t ≡ level (Tree-F.Oid x)
+arcs_shown t x e = shown_is t ∙ ap level (ap out-Tree e ∙ own.outs-Oid x)
 
 pub struct_shown : (t : Tree) (fs : List Field) → t ≡ own.Struct fs → shown_tree t ≡ level (Tree-F.Struct fs)
 struct_shown t fs e = shown_is t ∙ ap level (ap out-Tree e ∙ own.outs-Struct fs)

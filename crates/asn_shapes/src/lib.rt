@@ -24,4 +24,4 @@ pub use shapes::{
     are_members, is_bits, is_identifier, is_item, is_null, is_octets, is_opaque, is_real, is_text,
     is_truth_value, is_whole_number,
 };
-pub use trees::{Field, Tree, View, find_field};
+pub use trees::{Field, Members, Tree, View, find_field};

@@ -26,11 +26,11 @@ pub enum Tree {
     /// A string of octets (X.680 23).
     Octets(List<u8>),
     /// A text (X.680 41).
-    Text(Text),
+    Texted(Text),
     /// An object identifier by its arcs: an arc stands for its number where it has one, else for its name (X.680 32).
-    ObjectIdentifier(ObjectIdentifierValue),
+    Oid(ObjectIdentifierValue),
     /// The members that are present, of a SEQUENCE or SET: of several fields of one name the first stands (X.680 25, 27).
-    Struct(List<Field>),
+    Struct(Members),
     /// The elements of a SEQUENCE OF or SET OF, in order (X.680 26, 28).
     Elements(List<Tree>),
     /// An alternative of a CHOICE by its name (X.680 29).
@@ -38,6 +38,9 @@ pub enum Tree {
     /// A value of which nothing is known.
     Opaque,
 }
+
+/// The members that are present: a map in which each name has the tree of its first field.
+pub type Members = List<Field>;
 
 /// A member that is present.
 #[cycle(tree)]
@@ -79,8 +82,8 @@ impl Tree {
             Tree::Real(real) => View::Real(*real),
             Tree::Bits(bits) => View::Bits(bits.as_slice()),
             Tree::Octets(octets) => View::Octets(octets.as_slice()),
-            Tree::Text(text) => View::Text(text),
-            Tree::ObjectIdentifier(identifier) => View::Arcs(identifier.0.as_slice()),
+            Tree::Texted(text) => View::Text(text),
+            Tree::Oid(identifier) => View::Arcs(identifier.0.as_slice()),
             Tree::Struct(fields) => View::Struct(fields.as_slice()),
             Tree::Elements(trees) => View::Elements(trees.as_slice()),
             Tree::Alternative(name, tree) => View::Alternative(name, tree.get()),

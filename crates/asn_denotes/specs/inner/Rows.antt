@@ -1,6 +1,5 @@
 -- Octets as they are read off bits and numbers.
 use Rattle.std.specs.Prelude.{ℕ, ◌+◌, ◌*◌, nat_eq, nat_le, Bool, List, [], ◌∷◌, ℤ, pos, negsuc, Option, Some, None, if◌then◌else◌}
-use Rattle.std.specs.Str.{chars}
 use Rattle.asn_meaning.specs.Answers.{once}
 use Rattle.asn_meaning.specs.Rows.{octet}
 
@@ -19,7 +18,3 @@ abbrev pub quadruple_code : Option ℕ → Option ℕ → Option ℕ → Option 
 quadruple_code z p r c =
     once None z (λ group. once None p (λ plane. once None r (λ row. once None c (λ cell.
     if nat_eq group 0 then Some (65536 * plane + 256 * row + cell) else None))))
-
--- the characters' codes of a text
-abbrev pub text_characters : List ℕ → List ℕ
-text_characters text = chars text
