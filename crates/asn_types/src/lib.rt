@@ -1,0 +1,2 @@
+//! Types, constraints and objects as the grammar reads them.
+#![tactic(auto)]
