@@ -1,6 +1,7 @@
 //! Each reader of constraints, arguments and parameters on its example, on a miss and past a depth, and readings that are
 //! easy to get wrong.
 
+use asn_headers::{ObjectIdentifierArc, ObjectIdentifierValue};
 use asn_kinds::{
     ComponentPresence, PatternConstraint, RelationalConstraint, SetOperator, UserDefinedConstraint,
 };
@@ -183,6 +184,7 @@ fn ranges(rt: HostRuntime) -> Result<(), Fail> {
         extensible: true,
     };
     assert!(rt; is_element(alloc, "(MIN > .. 5, ..., 7)", low_open));
+    assert!(rt; failure(single_constraint(alloc, at("(MIN)"), 60)) == "single_constraint");
     Ok(())
 }
 
@@ -223,9 +225,16 @@ fn markers(rt: HostRuntime) -> Result<(), Fail> {
     assert!(rt; is_element(alloc, "(1, ...)", extensible_value(1)));
     assert!(rt; is_element(alloc, "((1, ...))", extensible_value(1)));
     assert!(rt; is_single(alloc, "((1), ..., 2, 3)", extensible_set(value(1))));
+    assert!(rt;
+        is_single(
+            alloc,
+            "((1, ...), ...)",
+            extensible_set(extensible_value(1))
+        )
+    );
     let last = ElementOrSetOperation::Element(extensible_value(2));
     let whole = joined(alloc, value(1), SetOperator::Union, last)?;
-    assert!(rt; is_single(alloc, "(1 | 2, ..., 3 | 4)", operation(whole)));
+    assert!(rt; is_single(alloc, "(1 | /*a*/ 2, ..., 3 | 4)", operation(whole)));
     let wanted = extensible_set(size(alloc, value(1))?);
     assert!(rt; is_single(alloc, "(SIZE (1), ...)", wanted));
     Ok(())
@@ -364,6 +373,15 @@ fn contents(rt: HostRuntime) -> Result<(), Fail> {
     Ok(())
 }
 
+/// The set of the object or object set of this name, and of more behind its marker.
+fn extensible_objects(alloc: Global, name: &str) -> Mem<ObjectSet> {
+    let name = Text::new(alloc, name)?;
+    Ok(ObjectSet {
+        values: List::of(alloc, ObjectSetValue::Reference(name))?,
+        extensible: Some(1),
+    })
+}
+
 /// A name after `@`.
 fn relation(alloc: Global, name: &str, level: usize) -> Mem<RelationalConstraint> {
     Ok(RelationalConstraint {
@@ -380,6 +398,11 @@ fn tables(rt: HostRuntime) -> Result<(), Fail> {
         linked_fields: List::new(alloc),
     });
     assert!(rt; is_single(alloc, "({Foo})", wanted));
+    let wanted = Constraint::TableConstraint(TableConstraint {
+        object_set: extensible_objects(alloc, "a")?,
+        linked_fields: List::new(alloc),
+    });
+    assert!(rt; is_single(alloc, "({a, ...})", wanted));
     let mut linked_fields = List::of(alloc, relation(alloc, "a", 0)?)?;
     linked_fields.add(relation(alloc, "b", 1)?)?;
     linked_fields.add(relation(alloc, "c", 2)?)?;
@@ -423,6 +446,15 @@ fn object(alloc: Global, name: &str, number: i128) -> Mem<InformationObjectField
     Ok(InformationObjectFields::DefaultSyntax(List::of(alloc, field)?))
 }
 
+/// An object identifier of one name.
+fn one_arc(alloc: Global, name: &str) -> Mem<ASN1Value> {
+    let arc = ObjectIdentifierArc {
+        name: Some(Text::new(alloc, name)?),
+        number: None,
+    };
+    Ok(ASN1Value::ObjectIdentifier(ObjectIdentifierValue(List::of(alloc, arc)?)))
+}
+
 /// An argument of each kind.
 fn arguments(alloc: Global) -> Mem<List<Parameter>> {
     let mut all = List::of(alloc, Parameter::ValueParameter(ASN1Value::Integer(5)))?;
@@ -448,6 +480,8 @@ fn template_arguments(rt: HostRuntime) -> Result<(), Fail> {
             wanted
         )
     );
+    let wanted = List::of(alloc, Parameter::ValueParameter(one_arc(alloc, "x")?))?;
+    assert!(rt; is_read(parameters(alloc, at("{{x}}"), 60), 5, wanted));
     let mut wanted = List::of(alloc, Constraint::Parameter(arguments(alloc)?))?;
     wanted.add(element(value(1)))?;
     assert!(rt;

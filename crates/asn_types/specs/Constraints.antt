@@ -4,6 +4,7 @@ use Rattle.asn_rules.specs.declared.names.TheConstants.{ASN1_TYPE, ASN1_VALUE, C
 use Rattle.asn_rules.specs.declared.node.Node.{Node}
 use Rattle.asn_rules.specs.Nodes.{Opened, at_child, child_among, made, made_all, the}
 use Rattle.asn_kinds.specs.declared.constraints.ElementSetOver.{ElementSetOver}
+use Rattle.asn_kinds.specs.declared.constraints.RelationalConstraint.{RelationalConstraint}
 use Rattle.asn_kinds.specs.declared.objects.ObjectSetOver.{ObjectSetOver}
 use Rattle.asn_tree.specs.declared.constraints.Constraint.{Constraint}
 use Rattle.asn_tree.specs.declared.constraints.Constraint.TheVariants as constraint
@@ -66,10 +67,14 @@ content_step text x =
     let rules = child_among (nodes x.children) ASN1_VALUE in
     made x.children CONTENT_BODY (made x.children ASN1_TYPE (encoded_with text rules) (λ c. containing_with text rules c.type)) (λ c. c.content)
 
--- an object set as a table, with the members that choose its row (X.682 10.3, 10.7)
+-- the members that choose a row of a table, in order; none where none stand (X.682 10.7)
+abbrev pub members_in : List ℕ → Option Node → Option (List RelationalConstraint)
+members_in text members = at_child members (Some []) (relations_of text)
+
+-- an object set as a table, with the members that choose its row (X.682 10.3)
 abbrev pub table_with : List ℕ → Option Node → Option (ObjectSetOver InformationObjectFields) → Option Constraint
 table_with text members set =
-    of_some set (λ set. of_some (at_child members (Some []) (relations_of text)) (λ members. Some (constraint.TableConstraint (record { object_set = set; linked_fields = members }))))
+    of_some set (λ set. of_some (members_in text members) (λ members. Some (constraint.TableConstraint (record { object_set = set; linked_fields = members }))))
 
 abbrev pub table_step : List ℕ → Opened Read → Option Constraint
 table_step text x = table_with text (child_among (nodes x.children) RELATIONS) (made x.children OBJECT_SET None (λ c. c.object_set))

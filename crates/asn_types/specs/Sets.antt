@@ -8,6 +8,7 @@ use Rattle.asn_rules.specs.Whole.{whole_rules}
 use Rattle.asn_rules.specs.Nodes.{Opened, closed, child_among, child_of, made, made_all, the}
 use Rattle.asn_kinds.specs.declared.constraints.ConstrainedComponentOver.{ConstrainedComponentOver}
 use Rattle.asn_kinds.specs.declared.constraints.ElementSetOver.{ElementSetOver}
+use Rattle.asn_kinds.specs.declared.constraints.SetOperator.{SetOperator}
 use Rattle.asn_tree.specs.MakingConstraints as making
 use Rattle.asn_tree.specs.declared.constraints.Constraint.{Constraint}
 use Rattle.asn_tree.specs.declared.constraints.ElementOrSetOperation.{ElementOrSetOperation}
@@ -37,10 +38,13 @@ one_with element = of_some element (λ element. Some (Element element))
 abbrev pub rest_step : List ℕ → Opened Read → Option ElementOrSetOperation
 rest_step text x = made x.children SET_OPERATION (made x.children SUBTYPE_ELEMENT None (λ c. one_with c.subtype)) (λ c. c.operation)
 
+abbrev pub an_operation : SubtypeElement → SetOperator → ElementOrSetOperation → ElementOrSetOperation
+an_operation base operator rest = SetOperation (making.operation_of base operator rest)
+
 -- an element, an operator, and what is left behind it; operators group to the right (X.680 50.1)
 abbrev pub operation_with : Option Node → Option SubtypeElement → Option ElementOrSetOperation → Option ElementOrSetOperation
 operation_with operator base rest =
-    of_some base (λ base. of_some (the operator operator_of) (λ operator. of_some rest (λ rest. Some (SetOperation (making.operation_of base operator rest)))))
+    of_some base (λ base. of_some (the operator operator_of) (λ operator. of_some rest (λ rest. Some (an_operation base operator rest))))
 
 abbrev pub operation_step : List ℕ → Opened Read → Option ElementOrSetOperation
 operation_step text x =

@@ -5,24 +5,25 @@
 
 ghost use Rattle.asn_literals.specs.Parts.{all_some};
 ghost use Rattle.asn_rules.specs.Children.{Is, StandsBy};
-ghost use Rattle.asn_rules.specs.Nodes.{at_children};
+ghost use Rattle.asn_rules.specs.Nodes.{at_children, child_of};
 ghost use Rattle.asn_rules.specs.Whole.{whole_rules};
-ghost use Rattle.asn_rules.specs.declared.names.TheConstants.{CONSTRAINT, CONSTRAINT_ITEM, CONTENT_BODY, CONTENT_CONSTRAINT, SINGLE_CONSTRAINT, TABLE_CONSTRAINT};
-ghost use Rattle.asn_types.specs.Constraints.{an_element};
+ghost use Rattle.asn_rules.specs.declared.names.TheConstants.{ASN1_VALUE, CONSTRAINT, CONSTRAINT_ITEM, CONTENT_BODY, CONTENT_CONSTRAINT, RELATIONS, SINGLE_CONSTRAINT, TABLE_CONSTRAINT};
+ghost use Rattle.asn_types.specs.Constraints.{an_element, containing_with, members_in};
 ghost use Rattle.asn_types.specs.Reading.{constraint_of, constraints_of, content_of, single_of, table_of};
 ghost use Rattle.std.specs.Prelude.{◌≡◌, All, IfOk, Some};
 
 use crate::arguments::read_parameters;
-use crate::elements::read_element;
+use crate::elements::read_element_form;
 use crate::objects::read_object_set;
 use crate::sets::read_set;
 use crate::types::read_type;
+use asn_kinds::RelationalConstraint;
 use asn_literals::children;
 use asn_memory::{List, Mem};
 use asn_pieces::read_relations;
 use asn_rules::{Node, names};
 use asn_tree::{
-    Constraint, ContentConstraint, ElementOrSetOperation, ElementSet, SubtypeElement,
+    ASN1Type, Constraint, ContentConstraint, ElementOrSetOperation, ElementSet, SubtypeElement,
     TableConstraint,
 };
 use asn_values::read_value;
@@ -54,7 +55,7 @@ fn read_each(alloc: Global, text: &[u8], nodes: &[Node]) -> Mem<List<Constraint>
 }
 
 /// A set of one element, with no extension marker behind it.
-fn element(element: SubtypeElement) -> Constraint
+fn set_of_one(element: SubtypeElement) -> Constraint
     ensures { result ≡ an_element element }
 {
     Constraint::SubtypeConstraint(ElementSet {
@@ -71,10 +72,10 @@ fn read_constraint(alloc: Global, text: &[u8], node: &Node) -> Mem<Constraint>
     ensures { IfOk result (λ constraint. constraint_of text.now node.now ≡ Some constraint) }
 {
     if let Some(single) = node.child(names::SINGLE_CONSTRAINT) {
-        return read_single(alloc, text, single);
+        return Ok(read_single(alloc, text, single)?);
     }
     match node.child(names::SIZE_CONSTRAINT) {
-        Some(size) => Ok(element(read_element(alloc, text, size)?)),
+        Some(size) => Ok(set_of_one(read_element_form(alloc, text, size)?)),
         None => {
             let arguments = node.the_child(names::PARAMETERS);
             Ok(Constraint::Parameter(read_parameters(alloc, text, arguments)?))
@@ -93,7 +94,7 @@ pub(crate) fn read_single(alloc: Global, text: &[u8], node: &Node) -> Mem<Constr
         return Ok(Constraint::ContentConstraint(read_content(alloc, text, content)?));
     }
     match node.child(names::TABLE_CONSTRAINT) {
-        Some(table) => read_table(alloc, text, table),
+        Some(table) => Ok(read_table(alloc, text, table)?),
         None => {
             let set = node.the_child(names::ELEMENT_SET);
             Ok(Constraint::SubtypeConstraint(read_set(alloc, text, set)?))
@@ -108,7 +109,29 @@ fn read_content(alloc: Global, text: &[u8], node: &Node) -> Mem<ContentConstrain
     requires { Is whole_rules text.now CONTENT_CONSTRAINT node.now }
     ensures { IfOk result (λ content. content_of text.now node.now ≡ Some content) }
 {
-    read_content_body(alloc, text, node.the_child(names::CONTENT_BODY))
+    Ok(read_content_body(alloc, text, node.the_child(names::CONTENT_BODY))?)
+}
+
+/// Encodings of a value of this type, by the rules that the value names, where it stands.
+fn read_containing(
+    alloc: Global,
+    text: &[u8],
+    node: &Node,
+    containing: ASN1Type,
+) -> Mem<ContentConstraint>
+    requires { StandsBy whole_rules text.now node.now }
+    ensures { IfOk result (λ content. containing_with text.now (child_of node.now ASN1_VALUE) (Some containing) ≡ Some content) }
+{
+    match node.child(names::ASN1_VALUE) {
+        Some(rules) => {
+            let encoded_by = read_value(alloc, text, rules)?;
+            Ok(ContentConstraint::ContainingEncodedBy {
+                containing,
+                encoded_by,
+            })
+        }
+        None => Ok(ContentConstraint::Containing(containing)),
+    }
 }
 
 /// What a string holds, or how it is encoded (X.682 11.1).
@@ -118,18 +141,26 @@ fn read_content_body(alloc: Global, text: &[u8], node: &Node) -> Mem<ContentCons
     requires { Is whole_rules text.now CONTENT_BODY node.now }
     ensures { IfOk result (λ content. content_of text.now node.now ≡ Some content) }
 {
-    let rules = match node.child(names::ASN1_VALUE) {
-        Some(rules) => Some(read_value(alloc, text, rules)?),
-        None => None,
-    };
-    match (node.child(names::ASN1_TYPE), rules) {
-        (Some(ty), Some(encoded_by)) => Ok(ContentConstraint::ContainingEncodedBy {
-            containing: read_type(alloc, text, ty)?,
-            encoded_by,
-        }),
-        (Some(ty), None) => Ok(ContentConstraint::Containing(read_type(alloc, text, ty)?)),
-        (None, Some(rules)) => Ok(ContentConstraint::EncodedBy(rules)),
-        (None, None) => unreachable!(),
+    match node.child(names::ASN1_TYPE) {
+        Some(ty) => {
+            let containing = read_type(alloc, text, ty)?;
+            Ok(read_containing(alloc, text, node, containing)?)
+        }
+        None => {
+            let rules = read_value(alloc, text, node.the_child(names::ASN1_VALUE))?;
+            Ok(ContentConstraint::EncodedBy(rules))
+        }
+    }
+}
+
+/// The members that choose a row of a table; none where none stand (X.682 10.7).
+fn read_members(alloc: Global, text: &[u8], node: &Node) -> Mem<List<RelationalConstraint>>
+    requires { StandsBy whole_rules text.now node.now }
+    ensures { IfOk result (λ members. members_in text.now (child_of node.now RELATIONS) ≡ Some members) }
+{
+    match node.child(names::RELATIONS) {
+        Some(members) => Ok(read_relations(alloc, text, members)?),
+        None => Ok(List::new(alloc)),
     }
 }
 
@@ -141,10 +172,7 @@ fn read_table(alloc: Global, text: &[u8], node: &Node) -> Mem<Constraint>
     ensures { IfOk result (λ constraint. table_of text.now node.now ≡ Some constraint) }
 {
     let object_set = read_object_set(alloc, text, node.the_child(names::OBJECT_SET))?;
-    let linked_fields = match node.child(names::RELATIONS) {
-        Some(members) => read_relations(alloc, text, members)?,
-        None => List::new(alloc),
-    };
+    let linked_fields = read_members(alloc, text, node)?;
     Ok(Constraint::TableConstraint(TableConstraint {
         object_set,
         linked_fields,

@@ -81,7 +81,11 @@ fn read_each(alloc: Global, text: &[u8], nodes: &[Node]) -> Mem<List<Parameteriz
 }
 
 /// The dummies in the braces, in order (X.683 8.1).
-pub(crate) fn read_parameterization(alloc: Global, text: &[u8], node: &Node) -> Mem<Parameterization>
+pub(crate) fn read_parameterization(
+    alloc: Global,
+    text: &[u8],
+    node: &Node,
+) -> Mem<Parameterization>
     requires { Is whole_rules text.now PARAMETERIZATION node.now }
     ensures { IfOk result (λ read. parameterization_of text.now node.now ≡ Some read) }
 {

@@ -1,6 +1,6 @@
 //! Elements of sets of values (X.680 clause 51).
 //!
-//! `sets.rt` calls [`read_subtype`]; `constraints.rt` calls [`read_element`] for a SIZE without parentheses around it.
+//! `sets.rt` calls [`read_subtype`]; `constraints.rt` calls [`read_element_form`] for a SIZE without parentheses around it.
 
 ghost use Rattle.asn_literals.specs.Parts.{all_some};
 ghost use Rattle.asn_rules.specs.Children.{Is, StandsBy};
@@ -15,7 +15,7 @@ ghost use Rattle.std.specs.Prelude.{◌≡◌, All, IfOk, Some};
 use crate::constraints::read_constraints;
 use crate::ranges::{read_range, read_single_value};
 use crate::sets::{read_rest, read_set};
-use crate::types::read_type;
+use crate::types::{read_behind, read_type};
 use asn_literals::{children, read_name};
 use asn_memory::{Box, List, Mem};
 use asn_pieces::{
@@ -32,13 +32,13 @@ pub(crate) fn read_subtype(alloc: Global, text: &[u8], node: &Node) -> Mem<Subty
     requires { Is whole_rules text.now SUBTYPE_ELEMENT node.now }
     ensures { IfOk result (λ element. subtype_of text.now node.now ≡ Some element) }
 {
-    read_element(alloc, text, node.first_child())
+    read_element_form(alloc, text, node.first_child())
 }
 
 /// The element that a node of one of the forms of elements is (X.680 51.1).
 #[cycle(reading)]
 #[tactic(auto, using(crate::proofs::EquationsOfConstraints::element_form_is, asn_literals::proofs::Views::as_rule))]
-pub(crate) fn read_element(alloc: Global, text: &[u8], node: &Node) -> Mem<SubtypeElement>
+pub(crate) fn read_element_form(alloc: Global, text: &[u8], node: &Node) -> Mem<SubtypeElement>
     requires { IsElement text.now node.now }
     ensures { IfOk result (λ element. element_form_of text.now node.now ≡ Some element) }
 {
@@ -139,10 +139,7 @@ fn read_listed_one(alloc: Global, text: &[u8], node: &Node) -> Mem<ConstrainedCo
     ensures { IfOk result (λ listed. listed_one_of text.now node.now ≡ Some listed) }
 {
     let identifier = read_name(alloc, text, node.the_child(names::IDENTIFIER))?;
-    let constraints = match node.child(names::CONSTRAINT) {
-        Some(constraints) => read_constraints(alloc, text, constraints)?,
-        None => List::new(alloc),
-    };
+    let constraints = read_behind(alloc, text, node)?;
     Ok(ConstrainedComponent {
         identifier,
         constraints,

@@ -61,5 +61,5 @@ pub(crate) fn read_range(alloc: Global, text: &[u8], node: &Node) -> Mem<Subtype
     ensures { IfOk result (λ element. range_of text.now node.now ≡ Some element) }
 {
     let ends = node.the_child(names::RANGE_BODY);
-    read_ends(alloc, text, ends, is_extensible(node))
+    Ok(read_ends(alloc, text, ends, is_extensible(node))?)
 }

@@ -5,9 +5,8 @@
 ghost use Rattle.asn_rules.specs.Children.{Is};
 ghost use Rattle.asn_rules.specs.Whole.{whole_rules};
 ghost use Rattle.asn_rules.specs.declared.names.TheConstants.{ELEMENT_SET, SET_OPERATION, SET_REST};
-ghost use Rattle.asn_tree.specs.MakingConstraints.{operation_of as joined};
-ghost use Rattle.asn_tree.specs.declared.constraints.ElementOrSetOperation.TheVariants.{SetOperation as Joined};
 ghost use Rattle.asn_types.specs.Reading.{operation_of, rest_of, set_of};
+ghost use Rattle.asn_types.specs.Sets.{an_operation};
 ghost use Rattle.std.specs.Prelude.{◌≡◌, IfOk, Some};
 
 use crate::elements::read_subtype;
@@ -40,7 +39,7 @@ pub(crate) fn read_rest(alloc: Global, text: &[u8], node: &Node) -> Mem<ElementO
     ensures { IfOk result (λ rest. rest_of text.now node.now ≡ Some rest) }
 {
     match node.child(names::SET_OPERATION) {
-        Some(operation) => read_operation(alloc, text, operation),
+        Some(operation) => Ok(read_operation(alloc, text, operation)?),
         None => {
             let element = node.the_child(names::SUBTYPE_ELEMENT);
             Ok(ElementOrSetOperation::Element(read_subtype(alloc, text, element)?))
@@ -49,12 +48,12 @@ pub(crate) fn read_rest(alloc: Global, text: &[u8], node: &Node) -> Mem<ElementO
 }
 
 /// An element, an operator, and what stands behind it.
-fn operation(
+fn joined(
     base: SubtypeElement,
     operator: SetOperator,
     operant: Box<ElementOrSetOperation>,
 ) -> ElementOrSetOperation
-    ensures { result ≡ Joined (joined base operator operant) }
+    ensures { result ≡ an_operation base operator operant }
 {
     ElementOrSetOperation::SetOperation(SetOperation {
         base,
@@ -73,5 +72,5 @@ fn read_operation(alloc: Global, text: &[u8], node: &Node) -> Mem<ElementOrSetOp
     let operator = read_operator(text, node.the_child(names::SET_OPERATOR));
     let base = read_subtype(alloc, text, node.the_child(names::SUBTYPE_ELEMENT))?;
     let rest = read_rest(alloc, text, node.the_child(names::SET_REST))?;
-    Ok(operation(base, operator, Box::new(alloc, rest)?))
+    Ok(joined(base, operator, Box::new(alloc, rest)?))
 }
