@@ -11,6 +11,7 @@ use Rattle.asn_rules.proofs.Nodes.{made_all_paired, made_paired, opened, paired,
 use Rattle.asn_kinds.specs.declared.constraints.ConstrainedComponentOver.{ConstrainedComponentOver}
 use Rattle.asn_kinds.specs.declared.constraints.ElementSetOver.{ElementSetOver}
 use Rattle.asn_tree.specs.declared.constraints.Constraint.{Constraint}
+use Rattle.asn_tree.specs.declared.constraints.ContentConstraint.{ContentConstraint}
 use Rattle.asn_tree.specs.declared.constraints.ElementOrSetOperation.{ElementOrSetOperation}
 use Rattle.asn_tree.specs.declared.constraints.SubtypeElement.{SubtypeElement}
 use Rattle.asn_tree.specs.declared.types.ASN1Type.{ASN1Type}
@@ -72,26 +73,31 @@ module _ (text : List ℕ) where
       ∙ ap (λ z. at_child (child_of n CONTENT_CONSTRAINT) z (λ c. contents_with (content_of text c))) (got n TABLE_CONSTRAINT (made (kids n) ELEMENT_SET None (λ c. subtype_with c.set)) (λ c. c.table))
       ∙ ap (λ z. at_child (child_of n CONTENT_CONSTRAINT) (at_child (child_of n TABLE_CONSTRAINT) z (table_of text)) (λ c. contents_with (content_of text c))) (got n ELEMENT_SET None (λ c. subtype_with c.set))
 
-  abbrev pub ContentIs : Node → Type 0
-  ContentIs n =
+  abbrev ContentAt : Node → Type 0
+  ContentAt n =
       content_of text n
       ≡ at_child (child_of n CONTENT_BODY) (at_child (child_of n ASN1_TYPE) (encoded_with text (child_of n ASN1_VALUE)) (λ c. containing_with text (child_of n ASN1_VALUE) (type_of text c))) (content_of text)
 
-  pub content_is : (n : Node) → ContentIs n
-  content_is n =
+  content_at : (n : Node) → ContentAt n
+  content_at n =
       ap (λ t. t.content) (para_out Read (read_step text) n)
       ∙ ap (λ ms. made (kids n) CONTENT_BODY (made (kids n) ASN1_TYPE (encoded_with text (child_among ms ASN1_VALUE)) (λ c. containing_with text (child_among ms ASN1_VALUE) c.type)) (λ c. c.content)) (nodes_paired (out-Node n).children)
       ∙ got n CONTENT_BODY (made (kids n) ASN1_TYPE (encoded_with text (child_of n ASN1_VALUE)) (λ c. containing_with text (child_of n ASN1_VALUE) c.type)) (λ c. c.content)
       ∙ ap (λ z. at_child (child_of n CONTENT_BODY) z (content_of text)) (got n ASN1_TYPE (encoded_with text (child_of n ASN1_VALUE)) (λ c. containing_with text (child_of n ASN1_VALUE) c.type))
 
-  -- what stands in no further parentheses
+  abbrev told : Node → Option ContentConstraint
+  told n = at_child (child_of n ASN1_TYPE) (encoded_with text (child_of n ASN1_VALUE)) (λ c. containing_with text (child_of n ASN1_VALUE) (type_of text c))
+
+  -- what stands in parentheses,
+  pub content_is : (n b : Node) → child_of n CONTENT_BODY ≡ Some b → content_of text n ≡ content_of text b
+  content_is n b e = content_at n ∙ ap (λ o. at_child o (told n) (content_of text)) e
+
+  -- and what stands in no further ones
   abbrev pub BodyIs : Node → Type 0
   BodyIs n = content_of text n ≡ at_child (child_of n ASN1_TYPE) (encoded_with text (child_of n ASN1_VALUE)) (λ c. containing_with text (child_of n ASN1_VALUE) (type_of text c))
 
   pub body_is : (n : Node) → Is whole_rules text CONTENT_BODY n → BodyIs n
-  body_is n is =
-      content_is n
-      ∙ ap (λ o. at_child o (at_child (child_of n ASN1_TYPE) (encoded_with text (child_of n ASN1_VALUE)) (λ c. containing_with text (child_of n ASN1_VALUE) (type_of text c))) (content_of text)) (body_has_no_body text n is)
+  body_is n is = content_at n ∙ ap (λ o. at_child o (told n) (content_of text)) (body_has_no_body text n is)
 
   pub table_is : (n : Node) → table_of text n ≡ table_with text (child_of n RELATIONS) (the (child_of n OBJECT_SET) (object_set_of text))
   table_is n =
