@@ -1,4 +1,6 @@
 //! The parameters of templates (X.683 8.1). They hold types, and no type leads to them, so they stand outside the cycle.
+//!
+//! The readers of definitions above call [`read_parameterization`].
 
 ghost use Rattle.asn_rules.specs.Children.{Is, StandsBy};
 ghost use Rattle.asn_rules.specs.Nodes.{child_of};
@@ -81,11 +83,7 @@ fn read_each(alloc: Global, text: &[u8], nodes: &[Node]) -> Mem<List<Parameteriz
 }
 
 /// The dummies in the braces, in order (X.683 8.1).
-pub(crate) fn read_parameterization(
-    alloc: Global,
-    text: &[u8],
-    node: &Node,
-) -> Mem<Parameterization>
+pub fn read_parameterization(alloc: Global, text: &[u8], node: &Node) -> Mem<Parameterization>
     requires { Is whole_rules text.now PARAMETERIZATION node.now }
     ensures { IfOk result (λ read. parameterization_of text.now node.now ≡ Some read) }
 {
