@@ -1,5 +1,5 @@
 -- The children that the readers of constraints ask for are there.
-use Rattle.std.proofs.Common.{◌≡◌, ℕ, ◌+◌, ◌≤◌, List, [], ◌∷◌, Bool, true, false, Option, Some, None, refl, sym, subst, arith}
+use Rattle.std.proofs.Common.{◌≡◌, ℕ, ◌+◌, ◌≤◌, List, [], ◌∷◌, Bool, true, false, Some, None, refl, sym, subst, arith}
 use Rattle.std.specs.Prelude.{nat_eq, ◌||◌, cond, IsSome}
 use Rattle.asn_rules.specs.Whole.{whole_rules}
 use Rattle.asn_rules.specs.Children.{Is}
