@@ -1,1 +1,4 @@
 pub mod Read
+pub mod Objects
+pub mod Reading
+pub mod Classes

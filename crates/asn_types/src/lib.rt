@@ -1,2 +1,9 @@
 //! Types, constraints and objects as the grammar reads them.
 #![tactic(auto)]
+
+mod classes;
+mod objects;
+mod readers;
+mod types;
+
+pub use readers::{information_object, information_object_class, object_set, type_identifier};
