@@ -1,52 +1,19 @@
 //! The readers of classes, objects and sets of objects.
 
+use crate::checks::{at, failure, is_read, is_too_deep};
 use asn_headers::{ObjectIdentifierArc, ObjectIdentifierValue};
 use asn_memory::{List, Mem, Text};
 use asn_syntax::{InformationObjectSyntax, ObjectFieldIdentifier, SyntaxExpression, SyntaxToken};
-use asn_text::{ErrorKind, ErrorTree, Input, ParseFault, ParserResult};
 use asn_tree::{
-    ASN1Type, ASN1Value, Boolean, DeclarationElsewhere, FixedValueField, InformationObjectClass,
-    InformationObjectClassField, InformationObjectField, InformationObjectFieldReference,
-    InformationObjectFields, Integer, ObjectIdentifier, ObjectSet, ObjectSetField, ObjectSetValue,
+    ASN1Type, ASN1Value, Boolean, Constraint, DeclarationElsewhere, ElementOrSetOperation,
+    ElementSet, FixedValueField, InformationObjectClass, InformationObjectClassField,
+    InformationObjectField, InformationObjectFieldReference, InformationObjectFields, Integer,
+    ObjectIdentifier, ObjectSet, ObjectSetField, ObjectSetValue, Parameter, SubtypeElement,
     SyntaxApplication, TypeField,
 };
 use asn_types::{information_object, information_object_class, object_set, type_identifier};
 use std::alloc::Global;
 use std::test::Fail;
-
-/// Whether the answer is this, and the rest begins at this offset.
-fn is_read<O: Drop + PartialEq>(answer: ParserResult<O>, end: usize, wanted: O) -> bool {
-    match answer {
-        Ok((rest, read)) => rest.offset() == end && read == wanted,
-        Err(_) => false,
-    }
-}
-
-/// The name that a failure tells, where it is at the start of the text.
-fn failure<'a, O: Drop>(answer: ParserResult<'a, O>) -> &'static str {
-    match answer {
-        Err(
-            ParseFault::Fail(
-                ErrorTree::Leaf {
-                    input,
-                    kind: ErrorKind::External(name),
-                },
-            ),
-        ) => { if input.offset() == 0 { name } else { "" } }
-        _ => "",
-    }
-}
-
-fn is_too_deep<O: Drop>(answer: ParserResult<O>) -> bool {
-    match answer {
-        Err(ParseFault::TooDeep) => true,
-        _ => false,
-    }
-}
-
-fn at<'a>(text: &'a str) -> Input<'a> {
-    Input::from(text)
-}
 
 fn named(alloc: Global, parent: Option<&str>, name: &str) -> Mem<DeclarationElsewhere> {
     let parent = match parent {
@@ -99,10 +66,7 @@ fn set(alloc: Global, names: &[&str], extensible: Option<usize>) -> Mem<ObjectSe
 
 fn given(alloc: Global, name: &str, value: ASN1Value) -> Mem<InformationObjectField> {
     let identifier = Text::new(alloc, name)?;
-    Ok(InformationObjectField::FixedValueField(FixedValueField {
-        identifier,
-        value,
-    }))
+    Ok(InformationObjectField::FixedValueField(FixedValueField { identifier, value }))
 }
 
 fn given_type(alloc: Global, name: &str, ty: ASN1Type) -> Mem<InformationObjectField> {
@@ -112,28 +76,18 @@ fn given_type(alloc: Global, name: &str, ty: ASN1Type) -> Mem<InformationObjectF
 
 fn given_set(alloc: Global, name: &str, value: ObjectSet) -> Mem<InformationObjectField> {
     let identifier = Text::new(alloc, name)?;
-    Ok(InformationObjectField::ObjectSetField(ObjectSetField {
-        identifier,
-        value,
-    }))
+    Ok(InformationObjectField::ObjectSetField(ObjectSetField { identifier, value }))
 }
 
 /// The object `{&id N}`.
 fn numbered(alloc: Global, number: i128) -> Mem<InformationObjectFields> {
     let field = given(alloc, "&id", ASN1Value::Integer(number))?;
-    Ok(InformationObjectFields::DefaultSyntax(List::of(
-        alloc,
-        field,
-    )?))
+    Ok(InformationObjectFields::DefaultSyntax(List::of(alloc, field)?))
 }
 
 /// A word that may be one of the syntax or the name of a type.
 fn word(alloc: Global, name: &str) -> Mem<SyntaxApplication> {
-    Ok(SyntaxApplication::LiteralOrTypeReference(named(
-        alloc,
-        None,
-        name,
-    )?))
+    Ok(SyntaxApplication::LiteralOrTypeReference(named(alloc, None, name)?))
 }
 
 fn is_set(alloc: Global, text: &str, wanted: ObjectSet) -> bool {
@@ -147,11 +101,7 @@ fn is_object(alloc: Global, text: &str, wanted: InformationObjectFields) -> bool
 /// Whether the one item in the braces is this.
 fn is_item(alloc: Global, text: &str, wanted: SyntaxApplication) -> Mem<bool> {
     let items = List::of(alloc, wanted)?;
-    Ok(is_object(
-        alloc,
-        text,
-        InformationObjectFields::CustomSyntax(items),
-    ))
+    Ok(is_object(alloc, text, InformationObjectFields::CustomSyntax(items)))
 }
 
 #[test]
@@ -162,7 +112,13 @@ fn sets(rt: HostRuntime) -> Result<(), Fail> {
     assert!(rt; is_too_deep(object_set(alloc, at("{x, ...}"), 4)));
     assert!(rt; is_set(alloc, "{}", set(alloc, &[], None)?));
     assert!(rt; is_set(alloc, " { X }", set(alloc, &["X"], None)?));
-    assert!(rt; is_set(alloc, "{a | b UNION c}", set(alloc, &["a", "b", "c"], None)?));
+    assert!(rt;
+        is_set(
+            alloc,
+            "{a | b UNION c}",
+            set(alloc, &["a", "b", "c"], None)?
+        )
+    );
     assert!(rt; is_set(alloc, "{a, b | c}", set(alloc, &["a", "b", "c"], None)?));
     assert!(rt; failure(object_set(alloc, at("{a |}"), 40)) == "object_set");
     assert!(rt; failure(object_set(alloc, at("{a, b, c}"), 40)) == "object_set");
@@ -266,8 +222,20 @@ fn items(rt: HostRuntime) -> Result<(), Fail> {
 fn single_items(rt: HostRuntime) -> Result<(), Fail> {
     let alloc = rt.alloc();
     assert!(rt; is_item(alloc, "{,}", SyntaxApplication::Comma)?);
-    assert!(rt; is_item(alloc, "{NULL}", SyntaxApplication::TypeReference(ASN1Type::Null))?);
-    assert!(rt; is_item(alloc, "{ALL}", SyntaxApplication::ValueReference(ASN1Value::All))?);
+    assert!(rt;
+        is_item(
+            alloc,
+            "{NULL}",
+            SyntaxApplication::TypeReference(ASN1Type::Null)
+        )?
+    );
+    assert!(rt;
+        is_item(
+            alloc,
+            "{ALL}",
+            SyntaxApplication::ValueReference(ASN1Value::All)
+        )?
+    );
     assert!(rt;
         is_item(
             alloc,
@@ -322,6 +290,39 @@ fn words_before_braces(rt: HostRuntime) -> Result<(), Fail> {
             InformationObjectFields::CustomSyntax(items)
         )
     );
+    Ok(())
+}
+
+/// The constraint `(0..7)`.
+fn up_to_seven(alloc: Global) -> Constraint {
+    let range = SubtypeElement::ValueRange {
+        min: Some(ASN1Value::Integer(0)),
+        max: Some(ASN1Value::Integer(7)),
+        min_open: false,
+        max_open: false,
+        extensible: false,
+    };
+    Constraint::SubtypeConstraint(ElementSet {
+        set: ElementOrSetOperation::Element(range),
+        extensible: false,
+    })
+}
+
+// A plain name with constraints is read with these, and is still a word or a type.
+#[test]
+fn constrained_items(rt: HostRuntime) -> Result<(), Fail> {
+    let alloc = rt.alloc();
+    let arguments = List::of(alloc, Parameter::TypeParameter(integer(alloc)))?;
+    let mut reference = named(alloc, None, "Foo")?;
+    reference.constraints = List::of(alloc, Constraint::Parameter(arguments))?;
+    let item = SyntaxApplication::LiteralOrTypeReference(reference);
+    assert!(rt; is_item(alloc, "{Foo {INTEGER}}", item)?);
+    let mut reference = named(alloc, None, "ID")?;
+    reference.constraints = List::of(alloc, up_to_seven(alloc))?;
+    let mut items = List::of(alloc, SyntaxApplication::LiteralOrTypeReference(reference))?;
+    items.add(word(alloc, "5")?)?;
+    let wanted = InformationObjectFields::CustomSyntax(items);
+    assert!(rt; is_object(alloc, "{ ID (0..7) 5 }", wanted));
     Ok(())
 }
 
@@ -405,7 +406,8 @@ fn class_fields(rt: HostRuntime) -> Result<(), Fail> {
     field.is_optional = true;
     field.default = Some(named_value(alloc, None, "x")?);
     fields.add(field)?;
-    let text = "CLASS { &id INTEGER UNIQUE, &a INTEGER UNIQUE OPTIONAL &b BOOLEAN DEFAULT TRUE, &c BOOLEAN OPTIONAL DEFAULT FALSE, &Type OPTIONAL, &d UNIQUE, &Set OTHER, &e DEFAULT x }";
+    let text =
+        "CLASS { &id INTEGER UNIQUE, &a INTEGER UNIQUE OPTIONAL &b BOOLEAN DEFAULT TRUE, &c BOOLEAN OPTIONAL DEFAULT FALSE, &Type OPTIONAL, &d UNIQUE, &Set OTHER, &e DEFAULT x }";
     assert!(rt; is_class(alloc, text, text.len(), class(fields, None)));
     Ok(())
 }
@@ -472,8 +474,7 @@ fn the_built_in_class(rt: HostRuntime) -> Result<(), Fail> {
     );
     assert!(rt; failure(type_identifier(alloc, at("TYPE-IDENTIFIERS"), 40)) == "type_identifier");
     assert!(rt; is_too_deep(type_identifier(alloc, at("TYPE-IDENTIFIER"), 1)));
-    let text =
-        "CLASS {&id OBJECT IDENTIFIER UNIQUE, &Type} WITH SYNTAX {&Type IDENTIFIED BY &id}";
+    let text = "CLASS {&id OBJECT IDENTIFIER UNIQUE, &Type} WITH SYNTAX {&Type IDENTIFIED BY &id}";
     assert!(rt; is_class(alloc, text, text.len(), built_in(alloc)?));
     Ok(())
 }

@@ -42,20 +42,16 @@ set_given name set = of_some name (λ name. of_some set (λ set. Some (ObjectSet
 abbrev pub type_given : Option (List ℕ) → Option ASN1Type → Option InformationObjectField
 type_given name ty = of_some name (λ name. of_some ty (λ ty. Some (TypeField (record { identifier = name; ty = ty }))))
 
--- the name of the field, where a capital letter stands behind its `&`
-abbrev pub capital_name : List ℕ → List Node → Option (List ℕ)
-capital_name text ns = the (child_among ns MULTIPLE_VALUE_FIELD_ID) (name_of text)
+-- the name of the field with its `&`
+abbrev pub field_name : List ℕ → List Node → Option (List ℕ)
+field_name text ns = at_child (child_among ns SINGLE_VALUE_FIELD_ID) (the (child_among ns MULTIPLE_VALUE_FIELD_ID) (name_of text)) (name_of text)
 
--- Where a small letter stands there, the field is given a value.
-abbrev pub default_field_with : List ℕ → List Node → Option InformationObjectField → Option InformationObjectField
-default_field_with text ns set_or_type =
-    at_child (child_among ns SINGLE_VALUE_FIELD_ID) set_or_type (λ name. value_given (name_of text name) (the (child_among ns ASN1_VALUE) (value_of text)))
-
--- a field by its name: a value, an object set or a type
+-- a field by its name: an object set, a type or a value
 abbrev pub default_field_step : List ℕ → Opened Read → Option InformationObjectField
 default_field_step text x =
     let ns = nodes x.children in
-    default_field_with text ns (made x.children OBJECT_SET (type_given (capital_name text ns) (made x.children ASN1_TYPE None (λ c. c.type))) (λ c. set_given (capital_name text ns) c.object_set))
+    let name = field_name text ns in
+    made x.children OBJECT_SET (made x.children ASN1_TYPE (value_given name (the (child_among ns ASN1_VALUE) (value_of text))) (λ c. type_given name c.type)) (λ c. set_given name c.object_set)
 
 -- the fields in order
 abbrev pub default_syntax_step : List ℕ → Opened Read → Option (List InformationObjectField)

@@ -4,21 +4,19 @@ ghost use Rattle.asn_rules.specs.Children.{Is, StandsBy};
 ghost use Rattle.asn_literals.specs.Parts.{if_there};
 ghost use Rattle.asn_rules.specs.Nodes.{child_of};
 ghost use Rattle.asn_rules.specs.Whole.{whole_rules};
-ghost use Rattle.asn_rules.specs.declared.names.TheConstants.{ASN1_TYPE, CLASS_FIELD, DEFAULT, FIELD_LIST, INFORMATION_OBJECT_CLASS};
-ghost use Rattle.asn_types.specs.Classes.{class_field_of, class_fields_in, class_fields_of, class_of, default_of, type_identifier};
+ghost use Rattle.asn_rules.specs.declared.names.TheConstants.{ASN1_TYPE, CLASS_FIELD, FIELD_LIST, INFORMATION_OBJECT_CLASS};
+ghost use Rattle.asn_types.specs.Classes.{class_field_of, class_fields_in, class_fields_of, class_of, type_identifier};
 ghost use Rattle.asn_types.specs.Reading.{type_of};
 ghost use Rattle.std.specs.Prelude.{◌≡◌, All, IfOk, Some};
 
+use crate::members::read_default;
 use crate::types::read_type;
 use asn_literals::children;
 use asn_memory::{List, Mem, Text};
 use asn_pieces::{is_unique, read_field, read_optional, read_syntax};
 use asn_rules::{Node, names};
 use asn_syntax::{InformationObjectSyntax, ObjectFieldIdentifier, SyntaxExpression, SyntaxToken};
-use asn_tree::{
-    ASN1Type, ASN1Value, InformationObjectClass, InformationObjectClassField, ObjectIdentifier,
-};
-use asn_values::read_value;
+use asn_tree::{ASN1Type, InformationObjectClass, InformationObjectClassField, ObjectIdentifier};
 use std::alloc::Global;
 
 /// The fields of the built-in class: `&id`, a unique OBJECT IDENTIFIER, and `&Type`, a type (X.681 A.2).
@@ -72,17 +70,6 @@ pub(crate) fn built_in_class(alloc: Global) -> Mem<InformationObjectClass>
     Ok(InformationObjectClass { fields, syntax })
 }
 
-/// The value behind the word DEFAULT; None where the word does not stand (X.680 25.1, X.681 9.6).
-pub(crate) fn read_default(alloc: Global, text: &[u8], node: &Node) -> Mem<Option<ASN1Value>>
-    requires { Is whole_rules text.now DEFAULT node.now }
-    ensures { IfOk result (λ value. default_of text.now node.now ≡ Some value) }
-{
-    match node.child(names::ASN1_VALUE) {
-        Some(value) => Ok(Some(read_value(alloc, text, value)?)),
-        None => Ok(None),
-    }
-}
-
 /// The type or class of a field, where one stands (X.681 9.5 to 9.11).
 fn read_field_type(alloc: Global, text: &[u8], node: &Node) -> Mem<Option<ASN1Type>>
     requires { Is whole_rules text.now CLASS_FIELD node.now }
@@ -115,11 +102,7 @@ fn read_class_field(alloc: Global, text: &[u8], node: &Node) -> Mem<InformationO
 
 /// The fields among the nodes.
 #[tactic(auto, using(asn_literals::proofs::Views::as_rule, asn_literals::proofs::Equations::takes_next, asn_literals::proofs::Equations::passes_next))]
-fn read_each(
-    alloc: Global,
-    text: &[u8],
-    nodes: &[Node],
-) -> Mem<List<InformationObjectClassField>>
+fn read_each(alloc: Global, text: &[u8], nodes: &[Node]) -> Mem<List<InformationObjectClassField>>
     requires { All (StandsBy whole_rules text.now) nodes.now }
     ensures { IfOk result (λ fields. class_fields_in text.now nodes.now ≡ Some fields) }
 {

@@ -2,6 +2,7 @@
 #![tactic(auto)]
 
 mod classes;
+mod members;
 mod objects;
 mod readers;
 mod types;

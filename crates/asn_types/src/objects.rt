@@ -4,11 +4,11 @@ ghost use Rattle.asn_literals.specs.Parts.{all_some};
 ghost use Rattle.asn_rules.specs.Children.{Is, StandsBy};
 ghost use Rattle.asn_rules.specs.Nodes.{at_children, child_of};
 ghost use Rattle.asn_rules.specs.Whole.{whole_rules};
-ghost use Rattle.asn_rules.specs.declared.names.TheConstants.{ASN1_TYPE, CUSTOM_ITEM, CUSTOM_SYNTAX, DEFAULT_FIELD, DEFAULT_SYNTAX, INFORMATION_OBJECT, LITERAL_WORD, MARK_COMMA, OBJECT_ITEM, OBJECT_SET, SINGLE_VALUE_FIELD_ID};
+ghost use Rattle.asn_rules.specs.declared.names.TheConstants.{ASN1_TYPE, CUSTOM_ITEM, CUSTOM_SYNTAX, DEFAULT_FIELD, DEFAULT_SYNTAX, INFORMATION_OBJECT, LITERAL_WORD, MARK_COMMA, OBJECT_ITEM, OBJECT_SET};
 ghost use Rattle.asn_rules.specs.declared.node.Node.TheViews.{out-Node};
 ghost use Rattle.asn_pieces.specs.Fields.{capitals_of};
 ghost use Rattle.asn_tree.specs.declared.types.ASN1Type.TheVariants.{ElsewhereDeclaredType};
-ghost use Rattle.asn_types.specs.Objects.{capital_name, object_set_with, reference_item, type_item, word_item};
+ghost use Rattle.asn_types.specs.Objects.{field_name, object_set_with, reference_item, type_item, word_item};
 ghost use Rattle.asn_types.specs.Reading.{custom_item_of, custom_syntax_of, default_field_of, default_syntax_of, object_item_of, object_list_of, object_of, object_set_of};
 ghost use Rattle.std.specs.Option.{option_copied};
 ghost use Rattle.std.specs.Prelude.{◌≡◌, All, IfOk, None, Some};
@@ -29,11 +29,7 @@ use std::alloc::Global;
 /// An object: its fields by their names, or in its class's own syntax (X.681 11.4).
 #[cycle(reading)]
 #[tactic(auto, using(crate::proofs::EquationsOfObjects::object_is, crate::proofs::ViewsObjects::object_has_items))]
-pub(crate) fn read_object(
-    alloc: Global,
-    text: &[u8],
-    node: &Node,
-) -> Mem<InformationObjectFields>
+pub(crate) fn read_object(alloc: Global, text: &[u8], node: &Node) -> Mem<InformationObjectFields>
     requires { Is whole_rules text.now INFORMATION_OBJECT node.now }
     ensures { IfOk result (λ object. object_of text.now node.now ≡ Some object) }
 {
@@ -52,11 +48,7 @@ pub(crate) fn read_object(
 /// The fields of an object by their names, in order (X.681 11.5).
 #[cycle(reading)]
 #[tactic(auto, using(crate::proofs::EquationsOfObjects::default_syntax_is))]
-fn read_default_syntax(
-    alloc: Global,
-    text: &[u8],
-    node: &Node,
-) -> Mem<List<InformationObjectField>>
+fn read_default_syntax(alloc: Global, text: &[u8], node: &Node) -> Mem<List<InformationObjectField>>
     requires { Is whole_rules text.now DEFAULT_SYNTAX node.now }
     ensures { IfOk result (λ fields. default_syntax_of text.now node.now ≡ Some fields) }
 {
@@ -82,58 +74,39 @@ fn read_default_fields(
     Ok(fields)
 }
 
-/// A field by its name: a value behind a small letter, an object set or a type behind a capital one (X.681 11.5).
+/// The name of a field with its `&`.
+#[tactic(auto, using(crate::proofs::ViewsObjects::field_has_name, asn_pieces::proofs::Views::single_has_blanks, asn_pieces::proofs::Views::multiple_has_blanks))]
+fn read_field_name(alloc: Global, text: &[u8], node: &Node) -> Mem<Text>
+    requires { Is whole_rules text.now DEFAULT_FIELD node.now }
+    ensures { IfOk result (λ name. field_name text.now (out-Node node.now).children ≡ Some name) }
+{
+    match node.child(names::SINGLE_VALUE_FIELD_ID) {
+        Some(name) => Ok(read_name(alloc, text, name)?),
+        None => {
+            let name = node.the_child(names::MULTIPLE_VALUE_FIELD_ID);
+            Ok(read_name(alloc, text, name)?)
+        }
+    }
+}
+
+/// A field by its name: an object set, a type or a value (X.681 11.5).
 #[cycle(reading)]
-#[tactic(auto, using(crate::proofs::EquationsOfObjects::default_field_is, crate::proofs::ViewsObjects::field_has_value, asn_pieces::proofs::Views::single_has_blanks))]
+#[tactic(auto, using(crate::proofs::EquationsOfObjects::default_field_is, crate::proofs::ViewsObjects::field_has_value))]
 fn read_default_field(alloc: Global, text: &[u8], node: &Node) -> Mem<InformationObjectField>
     requires { Is whole_rules text.now DEFAULT_FIELD node.now }
     ensures { IfOk result (λ field. default_field_of text.now node.now ≡ Some field) }
 {
-    match node.child(names::SINGLE_VALUE_FIELD_ID) {
-        Some(name) => {
-            let identifier = read_name(alloc, text, name)?;
-            let value = read_value(alloc, text, node.the_child(names::ASN1_VALUE))?;
-            Ok(InformationObjectField::FixedValueField(FixedValueField {
-                identifier,
-                value,
-            }))
-        }
-        None => read_set_or_type(alloc, text, node),
+    let identifier = read_field_name(alloc, text, node)?;
+    if let Some(set) = node.child(names::OBJECT_SET) {
+        let value = read_object_set(alloc, text, set)?;
+        return Ok(InformationObjectField::ObjectSetField(ObjectSetField { identifier, value }));
     }
-}
-
-/// The name of a field that is given an object set or a type.
-#[tactic(auto, using(crate::proofs::ViewsObjects::field_has_capital, asn_pieces::proofs::Views::multiple_has_blanks))]
-fn read_capital_name(alloc: Global, text: &[u8], node: &Node) -> Mem<Text>
-    requires is { Is whole_rules text.now DEFAULT_FIELD node.now }
-    requires no_value { child_of node.now SINGLE_VALUE_FIELD_ID ≡ None }
-    ensures { IfOk result (λ name. capital_name text.now (out-Node node.now).children ≡ Some name) }
-{
-    read_name(alloc, text, node.the_child(names::MULTIPLE_VALUE_FIELD_ID))
-}
-
-/// A field that is given an object set or a type.
-#[cycle(reading)]
-#[tactic(auto, using(crate::proofs::EquationsOfObjects::default_field_is, crate::proofs::ViewsObjects::field_has_type))]
-fn read_set_or_type(alloc: Global, text: &[u8], node: &Node) -> Mem<InformationObjectField>
-    requires is { Is whole_rules text.now DEFAULT_FIELD node.now }
-    requires no_value { child_of node.now SINGLE_VALUE_FIELD_ID ≡ None }
-    ensures { IfOk result (λ field. default_field_of text.now node.now ≡ Some field) }
-{
-    let identifier = read_capital_name(alloc, text, node)?;
-    match node.child(names::OBJECT_SET) {
-        Some(set) => {
-            let value = read_object_set(alloc, text, set)?;
-            Ok(InformationObjectField::ObjectSetField(ObjectSetField {
-                identifier,
-                value,
-            }))
-        }
-        None => {
-            let ty = read_type(alloc, text, node.the_child(names::ASN1_TYPE))?;
-            Ok(InformationObjectField::TypeField(TypeField { identifier, ty }))
-        }
+    if let Some(ty) = node.child(names::ASN1_TYPE) {
+        let ty = read_type(alloc, text, ty)?;
+        return Ok(InformationObjectField::TypeField(TypeField { identifier, ty }));
     }
+    let value = read_value(alloc, text, node.the_child(names::ASN1_VALUE))?;
+    Ok(InformationObjectField::FixedValueField(FixedValueField { identifier, value }))
 }
 
 /// The items of an object in its class's own syntax, in order (X.681 11.6).
@@ -148,11 +121,7 @@ fn read_custom_syntax(alloc: Global, text: &[u8], node: &Node) -> Mem<List<Synta
 
 #[cycle(reading)]
 #[tactic(auto, using(asn_literals::proofs::Views::as_rule, asn_literals::proofs::Equations::takes_next, asn_literals::proofs::Equations::passes_next))]
-fn read_custom_items(
-    alloc: Global,
-    text: &[u8],
-    nodes: &[Node],
-) -> Mem<List<SyntaxApplication>>
+fn read_custom_items(alloc: Global, text: &[u8], nodes: &[Node]) -> Mem<List<SyntaxApplication>>
     requires { All (StandsBy whole_rules text.now) nodes.now }
     ensures { IfOk result (λ items. all_some (at_children nodes.now CUSTOM_ITEM (custom_item_of text.now)) ≡ Some items) }
 {
@@ -189,6 +158,7 @@ fn reference_item(reference: DeclarationElsewhere) -> SyntaxApplication
 }
 
 /// The item that is a type.
+#[tactic(auto, using(crate::proofs::ItemsOfObjects::reference_is, crate::proofs::ItemsOfObjects::other_is))]
 fn type_item(ty: ASN1Type) -> SyntaxApplication
     ensures { result ≡ type_item ty }
 {
@@ -302,7 +272,7 @@ fn read_object_items(alloc: Global, text: &[u8], nodes: &[Node]) -> Mem<List<Obj
 
 /// An item of a set: an object, or the name of an object or a set (X.681 12.3).
 #[cycle(reading)]
-#[tactic(auto, using(crate::proofs::EquationsOfObjects::object_item_is, crate::proofs::ViewsObjects::item_has_name, asn_literals::proofs::Views::identifier_has_blanks))]
+#[tactic(auto, using(crate::proofs::EquationsOfObjects::object_item_is, crate::proofs::ViewsObjects::set_item_has_name, asn_literals::proofs::Views::identifier_has_blanks))]
 fn read_object_item(alloc: Global, text: &[u8], node: &Node) -> Mem<ObjectSetValue>
     requires { Is whole_rules text.now OBJECT_ITEM node.now }
     ensures { IfOk result (λ item. object_item_of text.now node.now ≡ Some item) }

@@ -17,11 +17,7 @@ use asn_tree::{InformationObjectClass, InformationObjectFields, ObjectSet};
 use std::alloc::Global;
 
 /// A set of objects: its items, and how many of them stand before the extension marker, where it stands (X.681 12.3).
-pub fn object_set<'a>(
-    alloc: Global,
-    input: Input<'a>,
-    depth: usize,
-) -> ParserResult<'a, ObjectSet>
+pub fn object_set<'a>(alloc: Global, input: Input<'a>, depth: usize) -> ParserResult<'a, ObjectSet>
     ensures ok { IfOk result (λ read. ReadsNode OBJECT_SET depth (part_of input.entry) (part_of read.0) (λ n. object_set_of (shown (part_of input.entry)) n ≡ Some read.1)) }
     ensures err { IfErr result (IsFaultAt OBJECT_SET (codes "object_set") input.entry depth) }
 {
