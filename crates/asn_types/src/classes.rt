@@ -5,18 +5,21 @@ ghost use Rattle.asn_literals.specs.Parts.{if_there};
 ghost use Rattle.asn_rules.specs.Nodes.{child_of};
 ghost use Rattle.asn_rules.specs.Whole.{whole_rules};
 ghost use Rattle.asn_rules.specs.declared.names.TheConstants.{ASN1_TYPE, CLASS_FIELD, FIELD_LIST, INFORMATION_OBJECT_CLASS};
-ghost use Rattle.asn_types.specs.Classes.{class_field_of, class_fields_in, class_fields_of, class_of, type_identifier};
+ghost use Rattle.asn_types.specs.Classes.{a_field, class_field_of, class_fields_in, class_fields_of, class_of, type_identifier};
 ghost use Rattle.asn_types.specs.Reading.{type_of};
 ghost use Rattle.std.specs.Prelude.{◌≡◌, All, IfOk, Some};
 
 use crate::members::read_default;
 use crate::types::read_type;
 use asn_literals::children;
+use asn_markers::OptionalMarker;
 use asn_memory::{List, Mem, Text};
 use asn_pieces::{is_unique, read_field, read_optional, read_syntax};
 use asn_rules::{Node, names};
 use asn_syntax::{InformationObjectSyntax, ObjectFieldIdentifier, SyntaxExpression, SyntaxToken};
-use asn_tree::{ASN1Type, InformationObjectClass, InformationObjectClassField, ObjectIdentifier};
+use asn_tree::{
+    ASN1Type, ASN1Value, InformationObjectClass, InformationObjectClassField, ObjectIdentifier,
+};
 use std::alloc::Global;
 
 /// The fields of the built-in class: `&id`, a unique OBJECT IDENTIFIER, and `&Type`, a type (X.681 A.2).
@@ -62,7 +65,7 @@ fn built_in_syntax(alloc: Global) -> Mem<InformationObjectSyntax>
 }
 
 /// The built-in class TYPE-IDENTIFIER (X.681 A.2).
-pub(crate) fn built_in_class(alloc: Global) -> Mem<InformationObjectClass>
+pub fn built_in_class(alloc: Global) -> Mem<InformationObjectClass>
     ensures { IfOk result (λ class. class ≡ type_identifier) }
 {
     let fields = built_in_fields(alloc)?;
@@ -81,6 +84,25 @@ fn read_field_type(alloc: Global, text: &[u8], node: &Node) -> Mem<Option<ASN1Ty
     }
 }
 
+/// The field of these parts: it may be left out where OPTIONAL or DEFAULT stands.
+fn class_field(
+    identifier: ObjectFieldIdentifier,
+    ty: Option<ASN1Type>,
+    optional: Option<OptionalMarker>,
+    default: Option<ASN1Value>,
+    is_unique: bool,
+) -> InformationObjectClassField
+    ensures { result ≡ a_field identifier ty optional default is_unique }
+{
+    InformationObjectClassField {
+        identifier,
+        ty,
+        is_optional: optional.is_some() || default.is_some(),
+        default,
+        is_unique,
+    }
+}
+
 /// A field: its name, its type or class, and which of UNIQUE, OPTIONAL and DEFAULT stand (X.681 9.4).
 #[tactic(auto, using(crate::proofs::ViewsObjects::class_field_has_name, crate::proofs::ViewsObjects::class_field_has_marker, crate::proofs::ViewsObjects::class_field_has_default))]
 fn read_class_field(alloc: Global, text: &[u8], node: &Node) -> Mem<InformationObjectClassField>
@@ -91,13 +113,7 @@ fn read_class_field(alloc: Global, text: &[u8], node: &Node) -> Mem<InformationO
     let ty = read_field_type(alloc, text, node)?;
     let marker = read_optional(node.the_child(names::OPTIONAL_MARKER));
     let default = read_default(alloc, text, node.the_child(names::DEFAULT))?;
-    Ok(InformationObjectClassField {
-        identifier,
-        ty,
-        is_optional: marker.is_some() || default.is_some(),
-        default,
-        is_unique: is_unique(node),
-    })
+    Ok(class_field(identifier, ty, marker, default, is_unique(node)))
 }
 
 /// The fields among the nodes.
@@ -129,7 +145,7 @@ fn read_class_fields(
 
 /// A class: its fields, and the syntax behind WITH SYNTAX, where it stands (X.681 9.3).
 #[tactic(auto, using(crate::proofs::ViewsObjects::class_has_fields))]
-pub(crate) fn read_class(alloc: Global, text: &[u8], node: &Node) -> Mem<InformationObjectClass>
+pub fn read_class(alloc: Global, text: &[u8], node: &Node) -> Mem<InformationObjectClass>
     requires { Is whole_rules text.now INFORMATION_OBJECT_CLASS node.now }
     ensures { IfOk result (λ class. class_of text.now node.now ≡ Some class) }
 {

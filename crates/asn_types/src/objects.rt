@@ -29,7 +29,7 @@ use std::alloc::Global;
 /// An object: its fields by their names, or in its class's own syntax (X.681 11.4).
 #[cycle(reading)]
 #[tactic(auto, using(crate::proofs::EquationsOfObjects::object_is, crate::proofs::ViewsObjects::object_has_items))]
-pub(crate) fn read_object(alloc: Global, text: &[u8], node: &Node) -> Mem<InformationObjectFields>
+pub fn read_object(alloc: Global, text: &[u8], node: &Node) -> Mem<InformationObjectFields>
     requires { Is whole_rules text.now INFORMATION_OBJECT node.now }
     ensures { IfOk result (λ object. object_of text.now node.now ≡ Some object) }
 {
@@ -227,7 +227,7 @@ fn set_of(
 /// A set of objects: its items, and how many of them stand before the extension marker, where it stands (X.681 12.3).
 #[cycle(reading)]
 #[tactic(auto, using(crate::proofs::EquationsOfObjects::object_set_is))]
-pub(crate) fn read_object_set(alloc: Global, text: &[u8], node: &Node) -> Mem<ObjectSet>
+pub fn read_object_set(alloc: Global, text: &[u8], node: &Node) -> Mem<ObjectSet>
     requires { Is whole_rules text.now OBJECT_SET node.now }
     ensures { IfOk result (λ set. object_set_of text.now node.now ≡ Some set) }
 {

@@ -1,9 +1,7 @@
-//! The public readers of types, constraints, classes and objects.
+//! The public readers.
 //!
 //! Each reads the rule of its name where its input begins; blanks and comments may stand before it. Want of memory aside,
 //! each answers `TooDeep` exactly where the height of its rule exceeds `depth`, and `Fail` exactly where it does not and
 //! the rule fails: a leaf with the input unchanged and the reader's name.
 
-mod objects;
-
-pub use objects::{information_object, information_object_class, object_set, type_identifier};
+pub(crate) mod objects;
