@@ -2,16 +2,16 @@
 
 ghost use Rattle.asn_literals.specs.Parts.{all_some};
 ghost use Rattle.asn_rules.specs.Children.{Is, StandsBy};
-ghost use Rattle.asn_rules.specs.Nodes.{at_children, child_of};
+ghost use Rattle.asn_rules.specs.Nodes.{at_child, at_children, child_of};
 ghost use Rattle.asn_rules.specs.Whole.{whole_rules};
-ghost use Rattle.asn_rules.specs.declared.names.TheConstants.{ASN1_TYPE, CUSTOM_ITEM, CUSTOM_SYNTAX, DEFAULT_FIELD, DEFAULT_SYNTAX, INFORMATION_OBJECT, LITERAL_WORD, MARK_COMMA, OBJECT_ITEM, OBJECT_SET};
+ghost use Rattle.asn_rules.specs.declared.names.TheConstants.{ASN1_TYPE, CUSTOM_ITEM, CUSTOM_SYNTAX, DEFAULT_FIELD, DEFAULT_SYNTAX, INFORMATION_OBJECT, LITERAL_WORD, MARK_COMMA, OBJECT_ITEM, OBJECT_LIST, OBJECT_SET, SET_MORE};
 ghost use Rattle.asn_rules.specs.declared.node.Node.TheViews.{out-Node};
 ghost use Rattle.asn_pieces.specs.Fields.{capitals_of};
 ghost use Rattle.asn_tree.specs.declared.types.ASN1Type.TheVariants.{ElsewhereDeclaredType};
 ghost use Rattle.asn_types.specs.Objects.{field_name, object_set_with, reference_item, type_item, word_item};
 ghost use Rattle.asn_types.specs.Reading.{custom_item_of, custom_syntax_of, default_field_of, default_syntax_of, object_item_of, object_list_of, object_of, object_set_of};
 ghost use Rattle.std.specs.Option.{option_copied};
-ghost use Rattle.std.specs.Prelude.{◌≡◌, All, IfOk, None, Some};
+ghost use Rattle.std.specs.Prelude.{◌≡◌, [], All, IfOk, None, Some};
 
 use crate::types::read_type;
 use asn_literals::{children, read_name};
@@ -52,7 +52,7 @@ fn read_default_syntax(alloc: Global, text: &[u8], node: &Node) -> Mem<List<Info
     requires { Is whole_rules text.now DEFAULT_SYNTAX node.now }
     ensures { IfOk result (λ fields. default_syntax_of text.now node.now ≡ Some fields) }
 {
-    read_default_fields(alloc, text, children(text, node))
+    Ok(read_default_fields(alloc, text, children(text, node))?)
 }
 
 #[cycle(reading)]
@@ -116,7 +116,7 @@ fn read_custom_syntax(alloc: Global, text: &[u8], node: &Node) -> Mem<List<Synta
     requires { Is whole_rules text.now CUSTOM_SYNTAX node.now }
     ensures { IfOk result (λ items. custom_syntax_of text.now node.now ≡ Some items) }
 {
-    read_custom_items(alloc, text, children(text, node))
+    Ok(read_custom_items(alloc, text, children(text, node))?)
 }
 
 #[cycle(reading)]
@@ -183,7 +183,7 @@ fn read_custom_item(alloc: Global, text: &[u8], node: &Node) -> Mem<SyntaxApplic
     }
     match node.child(names::ASN1_TYPE) {
         Some(ty) => Ok(type_item(read_type(alloc, text, ty)?)),
-        None => read_other_item(alloc, text, node),
+        None => Ok(read_other_item(alloc, text, node)?),
     }
 }
 
@@ -224,6 +224,30 @@ fn set_of(
     Ok(ObjectSet { values, extensible })
 }
 
+/// The items of a set before its marker; none where none stand.
+#[cycle(reading)]
+fn read_first_items(alloc: Global, text: &[u8], node: &Node) -> Mem<List<ObjectSetValue>>
+    requires { StandsBy whole_rules text.now node.now }
+    ensures { IfOk result (λ items. at_child (child_of node.now OBJECT_LIST) (Some []) (object_list_of text.now) ≡ Some items) }
+{
+    match node.child(names::OBJECT_LIST) {
+        Some(list) => Ok(read_object_list(alloc, text, list)?),
+        None => Ok(List::new(alloc)),
+    }
+}
+
+/// The items behind the first ones or behind the marker; none where none stand.
+#[cycle(reading)]
+fn read_more_items(alloc: Global, text: &[u8], node: &Node) -> Mem<List<ObjectSetValue>>
+    requires { StandsBy whole_rules text.now node.now }
+    ensures { IfOk result (λ items. at_child (child_of node.now SET_MORE) (Some []) (object_list_of text.now) ≡ Some items) }
+{
+    match node.child(names::SET_MORE) {
+        Some(more) => Ok(read_object_list(alloc, text, more)?),
+        None => Ok(List::new(alloc)),
+    }
+}
+
 /// A set of objects: its items, and how many of them stand before the extension marker, where it stands (X.681 12.3).
 #[cycle(reading)]
 #[tactic(auto, using(crate::proofs::EquationsOfObjects::object_set_is))]
@@ -231,14 +255,8 @@ pub fn read_object_set(alloc: Global, text: &[u8], node: &Node) -> Mem<ObjectSet
     requires { Is whole_rules text.now OBJECT_SET node.now }
     ensures { IfOk result (λ set. object_set_of text.now node.now ≡ Some set) }
 {
-    let first = match node.child(names::OBJECT_LIST) {
-        Some(list) => read_object_list(alloc, text, list)?,
-        None => List::new(alloc),
-    };
-    let more = match node.child(names::SET_MORE) {
-        Some(list) => read_object_list(alloc, text, list)?,
-        None => List::new(alloc),
-    };
+    let first = read_first_items(alloc, text, node)?;
+    let more = read_more_items(alloc, text, node)?;
     Ok(set_of(node.child(names::SET_MARK), first, more)?)
 }
 
@@ -250,8 +268,8 @@ fn read_object_list(alloc: Global, text: &[u8], node: &Node) -> Mem<List<ObjectS
     ensures { IfOk result (λ items. object_list_of text.now node.now ≡ Some items) }
 {
     match node.child(names::OBJECT_LIST) {
-        Some(list) => read_object_list(alloc, text, list),
-        None => read_object_items(alloc, text, children(text, node)),
+        Some(list) => Ok(read_object_list(alloc, text, list)?),
+        None => Ok(read_object_items(alloc, text, children(text, node))?),
     }
 }
 
