@@ -10,10 +10,12 @@ use Rattle.asn_types.specs.Objects.{reference_item, type_item, type_item_at}
 
 -- a type reference
 pub reference_is : (ty : ASN1Type) (reference : DeclarationElsewhereOver Constraint) → ty ≡ ElsewhereDeclaredType reference → type_item ty ≡ reference_item reference (ElsewhereDeclaredType reference) reference.parent
+unfolding type_item
 reference_is ty reference e = ap type_item e ∙ ap (type_item_at (ElsewhereDeclaredType reference)) (outs-ElsewhereDeclaredType reference)
 
 -- any other type
 pub other_is : (ty : ASN1Type) → ((reference : DeclarationElsewhereOver Constraint) → ty ≡ ElsewhereDeclaredType reference → ⊥) → type_item ty ≡ TypeReference ty
+unfolding type_item
 other_is ty none = go (out-ASN1Type ty) refl
   where
     go : (x : TypeLayer) → out-ASN1Type ty ≡ x → type_item_at ty x ≡ TypeReference ty

@@ -73,7 +73,7 @@ type_item_at ty (ASN1Type-F.ElsewhereDeclaredType reference) = reference_item re
 type_item_at ty _ = TypeReference ty
 
 -- an item that is read as a type
-abbrev pub type_item : ASN1Type → SyntaxApplication
+unfoldable pub type_item : ASN1Type → SyntaxApplication
 type_item ty = type_item_at ty (out-ASN1Type ty)
 
 abbrev pub type_item_with : Option ASN1Type → Option SyntaxApplication
