@@ -1,1 +1,5 @@
 pub mod Read
+pub mod Members
+pub mod Objects
+pub mod Reading
+pub mod Classes

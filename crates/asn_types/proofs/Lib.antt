@@ -1,0 +1,4 @@
+pub mod AskedObjects
+pub mod EquationsOfObjects
+pub mod ItemsOfObjects
+pub mod ViewsObjects
