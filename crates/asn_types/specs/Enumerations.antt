@@ -47,6 +47,10 @@ abbrev pub numbers_of : List (Option ℤ) → List (Option ℤ) → Option (List
 numbers_of root additions =
     of_some (numbers_from false (written root) [] root) (λ of_root. of_some (numbers_from true of_root [] additions) (λ of_additions. Some (of_root ++ of_additions)))
 
+-- the numbers that are written behind items
+abbrev pub numbers_written : List WrittenItem → List (Option ℤ)
+numbers_written items = map (λ item. item.number) items
+
 -- items as they are written, with their numbers
 abbrev pub numbered : List WrittenItem → List ℤ → List Enumeral
 numbered [] numbers = []
@@ -66,4 +70,4 @@ an_enumerated root additions marker numbers =
 abbrev pub enumerated_with : List ℕ → Node → Option ASN1Type
 enumerated_with text n =
     of_some (the (nth_child_of n ENUMERAL_LIST 0) (items_of text)) (λ root. of_some (the (nth_child_of n ENUMERAL_LIST 1) (items_of text)) (λ additions.
-    of_some (numbers_of (map (λ item. item.number) root) (map (λ item. item.number) additions)) (λ numbers. Some (an_enumerated root additions (extension_of n) numbers))))
+    of_some (numbers_of (numbers_written root) (numbers_written additions)) (λ numbers. Some (an_enumerated root additions (extension_of n) numbers))))

@@ -5,3 +5,4 @@ pub mod Members
 pub mod Types
 pub mod Reading
 pub mod Forms
+pub mod Children
