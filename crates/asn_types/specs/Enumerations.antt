@@ -1,5 +1,5 @@
 -- ENUMERATED and the numbers of its items (X.680 20).
-use Rattle.std.specs.Prelude.{ℕ, ℤ, pos, int_lt, List, [], ◌∷◌, ◌++◌, map, length, Bool, true, false, not, ◌&&◌, Option, Some, None}
+use Rattle.std.specs.Prelude.{ℕ, ℤ, pos, negsuc, nat_lt, List, [], ◌∷◌, ◌++◌, map, length, Bool, true, false, not, ◌&&◌, Option, Some, None}
 use Rattle.std.specs.List.{list_all}
 use Rattle.std.specs.Option.{option_map}
 use Rattle.asn_markers.specs.declared.ExtensionMarker.{ExtensionMarker}
@@ -16,9 +16,13 @@ use Rattle.asn_pieces.specs.Enumerations.{items_of}
 use Rattle.asn_pieces.specs.Words.{extension_of}
 use Rattle.asn_pieces.specs.declared.enumerations.WrittenItem.{WrittenItem}
 
+abbrev pub is_above : ℕ → ℤ → Bool
+is_above n (pos m) = nat_lt m n
+is_above n (negsuc m) = true
+
 -- whether a number is not taken, and above each earlier one
 abbrev pub is_free : List ℤ → List ℤ → ℕ → Bool
-is_free taken earlier n = not (has taken (pos n)) && list_all (λ m. int_lt m (pos n)) earlier
+is_free taken earlier n = not (has taken (pos n)) && list_all (is_above n) earlier
 
 -- the least such number from 0 on, if it is one of 128 bits
 abbrev pub next : List ℤ → List ℤ → Option ℤ

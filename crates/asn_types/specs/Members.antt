@@ -4,7 +4,7 @@ use Rattle.asn_markers.specs.declared.ExtensionMarker.{ExtensionMarker}
 use Rattle.asn_rules.specs.declared.names.TheConstants.{ADDITION_LIST, ASN1_TYPE, ASN1_VALUE, ASN_TAG, COMPONENT_LIST, COMPONENT_PATH, CONSTRAINT, DEFAULT, EXTENSION_GROUP, IDENTIFIER, OPTIONAL_MARKER, SEQUENCE_COMPONENT, SEQUENCE_OR_SET_MEMBER}
 use Rattle.asn_rules.specs.declared.node.Node.{Node}
 use Rattle.asn_rules.specs.declared.node.Node.TheViews.{out-Node}
-use Rattle.asn_rules.specs.Nodes.{Opened, at_child, child_of, closed, made, the}
+use Rattle.asn_rules.specs.Nodes.{Opened, child_of, closed, made, the}
 use Rattle.asn_tree.specs.MakingTypes as making
 use Rattle.asn_tree.specs.declared.constraints.Constraint.{Constraint}
 use Rattle.asn_tree.specs.declared.types.ASN1Type.{ASN1Type, ASN1Type-F, roll-ASN1Type}

@@ -82,10 +82,10 @@ fn read_option_list(alloc: Global, text: &[u8], nodes: &[Node]) -> Mem<List<Choi
 {
     let mut options = List::new(alloc);
     for node in nodes {
-        match node.rule {
-            names::CHOICE_OPTION => options.add(read_option(alloc, text, node)?)?,
-            names::OPTION_GROUP => options.append(read_options(alloc, text, node)?)?,
-            _ => {}
+        if node.rule == names::CHOICE_OPTION {
+            options.add(read_option(alloc, text, node)?)?;
+        } else if node.rule == names::OPTION_GROUP {
+            options.append(read_options(alloc, text, node)?)?;
         }
     }
     Ok(options)

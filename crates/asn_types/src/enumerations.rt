@@ -9,7 +9,6 @@ ghost use Rattle.asn_numbers.specs.Enumeration.{NumbersPass};
 ghost use Rattle.std.specs.Prelude.{◌≡◌, ◌++◌, IfOk, Some, length};
 
 use asn_kinds::Enumeral;
-use asn_literals::enumerated_numbers_fit;
 use asn_markers::ExtensionMarker;
 use asn_memory::{List, Mem};
 use asn_numbers::enumerate;
@@ -100,7 +99,6 @@ pub(crate) fn read_enumerated(alloc: Global, text: &[u8], node: &Node) -> Mem<AS
     let additions = read_items(alloc, text, node.the_nth_child(names::ENUMERAL_LIST, 1))?;
     let of_root = numbers_written(alloc, root.as_slice())?;
     let of_additions = numbers_written(alloc, additions.as_slice())?;
-    enumerated_numbers_fit();
     let numbers = numbers(alloc, of_root.as_slice(), of_additions.as_slice())?;
     let marker = read_extension(node);
     Ok(enumerated(alloc, root, additions, marker, numbers.as_slice())?)

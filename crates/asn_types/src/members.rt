@@ -59,7 +59,7 @@ fn member(
 
 /// A member: its name, its tag, its type, the constraints behind the type, OPTIONAL, and its default (X.680 25.1).
 #[cycle(reading)]
-#[tactic(auto, using(crate::proofs::Equations::member_is, crate::proofs::ViewsTypes::member_has_name, crate::proofs::ViewsTypes::member_has_type, crate::proofs::ViewsTypes::member_has_marker, crate::proofs::ViewsTypes::member_has_default, asn_literals::proofs::Views::identifier_has_blanks))]
+#[tactic(auto, using(crate::proofs::Equations::member_is, asn_pieces::proofs::Views::member_has_name, crate::proofs::ViewsTypes::member_has_type, crate::proofs::ViewsTypes::member_has_marker, crate::proofs::ViewsTypes::member_has_default, asn_literals::proofs::Views::identifier_has_blanks))]
 pub(crate) fn read_member(alloc: Global, text: &[u8], node: &Node) -> Mem<SequenceOrSetMember>
     requires { Is whole_rules text.now SEQUENCE_OR_SET_MEMBER node.now }
     ensures { IfOk result (λ made. member_of text.now node.now ≡ Some made) }
@@ -114,12 +114,10 @@ fn read_component_list(alloc: Global, text: &[u8], nodes: &[Node]) -> Mem<List<S
 {
     let mut components = List::new(alloc);
     for node in nodes {
-        match node.rule {
-            names::SEQUENCE_COMPONENT => components.add(read_component(alloc, text, node)?)?,
-            names::EXTENSION_GROUP => {
-                components.add(SequenceComponent::Member(read_group(alloc, text, node)?))?;
-            }
-            _ => {}
+        if node.rule == names::SEQUENCE_COMPONENT {
+            components.add(read_component(alloc, text, node)?)?;
+        } else if node.rule == names::EXTENSION_GROUP {
+            components.add(SequenceComponent::Member(read_group(alloc, text, node)?))?;
         }
     }
     Ok(components)

@@ -293,7 +293,7 @@ fn named(
 
 /// A type reference: the path to it, its name and the constraints behind it (X.680 14.1, X.681 15).
 #[cycle(reading)]
-#[tactic(auto, using(crate::proofs::ViewsTypes::elsewhere_has_path, crate::proofs::ViewsTypes::elsewhere_has_name, crate::proofs::ViewsTypes::title_has_blanks))]
+#[tactic(auto, using(crate::proofs::ViewsTypes::elsewhere_has_path, crate::proofs::ViewsTypes::elsewhere_has_name, asn_pieces::proofs::Views::title_has_blanks))]
 pub(crate) fn read_elsewhere(alloc: Global, text: &[u8], node: &Node) -> Mem<ASN1Type>
     requires { Is whole_rules text.now ELSEWHERE_DECLARED_TYPE node.now }
     ensures { IfOk result (λ ty. elsewhere_type_of text.now node.now ≡ Some ty) }

@@ -1,0 +1,5 @@
+pub mod AskedTypes
+pub mod Equations
+pub mod Items
+pub mod Numbers
+pub mod ViewsTypes
