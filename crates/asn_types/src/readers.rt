@@ -4,4 +4,6 @@
 //! each answers `TooDeep` exactly where the height of its rule exceeds `depth`, and `Fail` exactly where it does not and
 //! the rule fails: a leaf with the input unchanged and the reader's name.
 
+pub(crate) mod constraints;
 pub(crate) mod objects;
+pub(crate) mod types;

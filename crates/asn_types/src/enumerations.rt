@@ -1,0 +1,105 @@
+//! ENUMERATED and the numbers of its items.
+
+ghost use Rattle.asn_rules.specs.Children.{Is};
+ghost use Rattle.asn_rules.specs.Whole.{whole_rules};
+ghost use Rattle.asn_rules.specs.declared.names.TheConstants.{ENUMERATED};
+ghost use Rattle.asn_types.specs.Enumerations.{an_enumerated, numbered, numbers_of, numbers_written};
+ghost use Rattle.asn_types.specs.Forms.{enumerated_type_of};
+ghost use Rattle.asn_numbers.specs.Enumeration.{NumbersPass};
+ghost use Rattle.std.specs.Prelude.{◌≡◌, ◌++◌, IfOk, Some, length};
+
+use asn_kinds::Enumeral;
+use asn_markers::ExtensionMarker;
+use asn_memory::{List, Mem};
+use asn_numbers::enumerate;
+use asn_pieces::{WrittenItem, read_extension, read_items};
+use asn_rules::{Node, names};
+use asn_tree::{ASN1Type, Enumerated};
+use std::alloc::Global;
+
+/// The numbers that are written behind the items, each where it stands.
+fn numbers_written(alloc: Global, items: &[WrittenItem]) -> Mem<List<Option<i128>>>
+    ensures { IfOk result (λ numbers. numbers ≡ numbers_written items.now) }
+{
+    let mut numbers = List::new(alloc);
+    for item in items {
+        numbers.add(item.number)?;
+    }
+    Ok(numbers)
+}
+
+/// The item with its number.
+fn with_number(item: WrittenItem, index: i128) -> Enumeral
+    ensures { result ≡ record { name = item.name; description = item.description; index = index } }
+{
+    Enumeral {
+        name: item.name,
+        description: item.description,
+        index,
+    }
+}
+
+/// The items with their numbers.
+fn numbered(alloc: Global, items: List<WrittenItem>, numbers: &[i128]) -> Mem<List<Enumeral>>
+    requires { length items ≡ length numbers.now }
+    ensures { IfOk result (λ made. made ≡ numbered items numbers.now) }
+{
+    let mut made = List::new(alloc);
+    for item in items.into_vec() {
+        let index = numbers[made.len()];
+        made.add(with_number(item, index))?;
+    }
+    Ok(made)
+}
+
+/// The ENUMERATED of items before an extension marker and behind it, with the numbers of all of them.
+fn enumerated(
+    alloc: Global,
+    root: List<WrittenItem>,
+    additions: List<WrittenItem>,
+    marker: Option<ExtensionMarker>,
+    numbers: &[i128],
+) -> Mem<ASN1Type>
+    requires { length (root ++ additions) ≡ length numbers.now }
+    ensures { IfOk result (λ ty. ty ≡ an_enumerated root additions marker numbers.now) }
+{
+    let extensible = match marker {
+        Some(_) => Some(root.len()),
+        None => None,
+    };
+    let mut items = root;
+    items.append(additions)?;
+    Ok(ASN1Type::Enumerated(Enumerated {
+        members: numbered(alloc, items, numbers)?,
+        extensible,
+        constraints: List::new(alloc),
+    }))
+}
+
+/// The numbers of all items (X.680 20.4 to 20.7), none of which passes 128 bits.
+#[tactic(auto, using(crate::proofs::Numbers::numbers_are))]
+fn numbers(alloc: Global, root: &[Option<i128>], additions: &[Option<i128>]) -> Mem<List<i128>>
+    requires { NumbersPass root.now additions.now → ⊥ }
+    ensures { IfOk result (λ numbers. numbers_of root.now additions.now ≡ Some numbers) }
+{
+    match enumerate(alloc, root, additions)? {
+        Some(numbers) => Ok(numbers),
+        None => unreachable!(),
+    }
+}
+
+/// ENUMERATED: its items with their numbers and comments; it is extensible behind those before the extension marker
+/// (X.680 20.1).
+#[tactic(auto, using(crate::proofs::ViewsTypes::enumerated_has_root, crate::proofs::ViewsTypes::enumerated_has_additions, crate::proofs::Items::numbers_fit, crate::proofs::Numbers::as_many))]
+pub(crate) fn read_enumerated(alloc: Global, text: &[u8], node: &Node) -> Mem<ASN1Type>
+    requires { Is whole_rules text.now ENUMERATED node.now }
+    ensures { IfOk result (λ ty. enumerated_type_of text.now node.now ≡ Some ty) }
+{
+    let root = read_items(alloc, text, node.the_nth_child(names::ENUMERAL_LIST, 0))?;
+    let additions = read_items(alloc, text, node.the_nth_child(names::ENUMERAL_LIST, 1))?;
+    let of_root = numbers_written(alloc, root.as_slice())?;
+    let of_additions = numbers_written(alloc, additions.as_slice())?;
+    let numbers = numbers(alloc, of_root.as_slice(), of_additions.as_slice())?;
+    let marker = read_extension(node);
+    Ok(enumerated(alloc, root, additions, marker, numbers.as_slice())?)
+}
