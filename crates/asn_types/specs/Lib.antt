@@ -6,3 +6,4 @@ pub mod Types
 pub mod Reading
 pub mod Forms
 pub mod Children
+pub mod Laws

@@ -9,10 +9,12 @@
 mod choices;
 mod constraints;
 mod enumerations;
+mod laws;
 mod members;
 mod readers;
 mod types;
 
+pub use laws::numbers_are_the_standards;
 pub use readers::types::{
     asn1_type, bit_string, boolean, character_string, choice, default, elsewhere_declared_type,
     embedded_pdv, enumerated, external, generalized_time, information_object_field_reference,
