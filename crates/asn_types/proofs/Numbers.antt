@@ -1,18 +1,16 @@
 -- The numbers that are computed are the standard's.
-use Rattle.std.proofs.Common.{◌≡◌, ℕ, suc, ◌+◌, ◌^◌, ◌<◌, ◌≤◌, inl, inr, ℤ, pos, negsuc, ◌≤ℤ◌, ◌<ℤ◌, List, [], ◌∷◌, ◌++◌, length, length-append, Bool, true, false, Option, Some, None, refl, sym, ap, ◌∙◌, subst, arith}
+use Rattle.std.proofs.Common.{◌≡◌, ℕ, ◌^◌, ◌<◌, ◌≤◌, inl, inr, ℤ, pos, negsuc, ◌≤ℤ◌, ◌<ℤ◌, List, [], ◌∷◌, ◌++◌, Bool, true, false, Option, Some, None, refl, sym, ap, ◌∙◌, subst, arith}
 use Rattle.std.specs.Prelude.{not, nat_lt, ◌&&◌, if◌then◌else◌}
 use Rattle.std.specs.List.{list_all}
 use Rattle.std.proofs.lemmas.Bool.Decides.{nat_tests}
 use Rattle.std.proofs.lemmas.Int.{ints}
-use Rattle.std.proofs.lemmas.List.{length-map}
 use Rattle.asn_numbers.specs.Enumeration.{has, written, if_fits, IsAbove, IsFree, IsNext, AreNumbers, AreOfAdditions, AreOfRoot, Numbered, NumbersPass, SomePasses, behind}
 use Rattle.asn_numbers.proofs.Counting.{additions_pass, root_passes}
 use Rattle.asn_numbers.specs.inner.Counting.{Passes}
 use Rattle.asn_guards.proofs.Numbered.{Least, least}
 use Rattle.asn_guards.specs.Enumerations.{least_free}
 use Rattle.asn_literals.specs.Parts.{of_some}
-use Rattle.asn_types.specs.Enumerations.{is_above, is_free, next, number_of, numbers_from, numbers_of, numbers_written, with_earlier}
-use Rattle.asn_pieces.specs.declared.enumerations.WrittenItem.{WrittenItem}
+use Rattle.asn_types.specs.Enumerations.{is_above, is_free, next, numbers_from, numbers_of, with_earlier}
 
 -- The test tells what is free.
 
@@ -146,36 +144,3 @@ numbers_are root additions ns a fit =
     ap (λ o. of_some o (λ of_root. of_some (numbers_from true of_root [] additions) (λ of_additions. Some (of_root ++ of_additions)))) (root_come root additions a.of_root a.root_has (λ p. within (passes_before a.of_root a.of_additions p)))
     ∙ ap (λ o. of_some o (λ of_additions. Some (a.of_root ++ of_additions))) (additions_come root additions a.of_root a.of_additions a.root_has a.additions_have (λ p. within (passes_behind a.of_root a.of_additions p)))
     ∙ ap Some (sym a.together)
-
--- And there are as many as there are items.
-
-counted : (additions : Bool) (taken earlier : List ℤ) (items : List (Option ℤ)) (ns : List ℤ) → numbers_from additions taken earlier items ≡ Some ns → length items ≡ length ns
-counted additions taken earlier [] ns e = let none : ns ≡ [] = cc in ap length (sym none)
-counted additions taken earlier (item ∷ items) ns e = first (number_of taken earlier item) (λ n ms f. counted additions taken (with_earlier additions earlier item n) items ms f) e
-  where
-    one_more : (n : ℤ) (o : Option (List ℤ)) → ((ms : List ℤ) → o ≡ Some ms → length items ≡ length ms) → of_some o (λ ms. Some (n ∷ ms)) ≡ Some ns → suc (length items) ≡ length ns
-    one_more n None again e = absurd cc
-    one_more n (Some ms) again e = let same : ns ≡ n ∷ ms = cc in ap (λ k. suc k) (again ms refl) ∙ ap length (sym same)
-
-    first : (o : Option ℤ) → ((n : ℤ) (ms : List ℤ) → numbers_from additions taken (with_earlier additions earlier item n) items ≡ Some ms → length items ≡ length ms) → of_some o (λ n. of_some (numbers_from additions taken (with_earlier additions earlier item n) items) (λ ms. Some (n ∷ ms))) ≡ Some ns → suc (length items) ≡ length ns
-    first None again e = absurd cc
-    first (Some n) again e = one_more n (numbers_from additions taken (with_earlier additions earlier item n) items) (again n) e
-
-together : (root additions : List (Option ℤ)) (ns : List ℤ) → numbers_of root additions ≡ Some ns → length (root ++ additions) ≡ length ns
-together root additions ns e = first (numbers_from false (written root) [] root) (λ of_root f. counted false (written root) [] root of_root f) e
-  where
-    second : (of_root : List ℤ) (o : Option (List ℤ)) → length root ≡ length of_root → ((ms : List ℤ) → o ≡ Some ms → length additions ≡ length ms) → of_some o (λ of_additions. Some (of_root ++ of_additions)) ≡ Some ns → length (root ++ additions) ≡ length ns
-    second of_root None same again e = absurd cc
-    second of_root (Some ms) same again e =
-        let is : ns ≡ of_root ++ ms = cc in
-        length-append root additions ∙ ap (λ k. k + length additions) same ∙ ap (λ k. length of_root + k) (again ms refl) ∙ sym (length-append of_root ms) ∙ ap length (sym is)
-
-    first : (o : Option (List ℤ)) → ((of_root : List ℤ) → o ≡ Some of_root → length root ≡ length of_root) → of_some o (λ of_root. of_some (numbers_from true of_root [] additions) (λ of_additions. Some (of_root ++ of_additions))) ≡ Some ns → length (root ++ additions) ≡ length ns
-    first None again e = absurd cc
-    first (Some of_root) again e = second of_root (numbers_from true of_root [] additions) (again of_root refl) (λ ms f. counted true of_root [] additions ms f) e
-
--- So of items that are written there are as many as there are numbers.
-pub as_many : (root additions : List WrittenItem) (ns : List ℤ) → numbers_of (numbers_written root) (numbers_written additions) ≡ Some ns → length (root ++ additions) ≡ length ns
-as_many root additions ns e =
-    length-append root additions ∙ ap (λ k. k + length additions) (sym (length-map root (λ item. item.number))) ∙ ap (λ k. length (numbers_written root) + k) (sym (length-map additions (λ item. item.number)))
-    ∙ sym (length-append (numbers_written root) (numbers_written additions)) ∙ together (numbers_written root) (numbers_written additions) ns e

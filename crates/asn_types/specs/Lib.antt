@@ -12,4 +12,5 @@ pub mod Forms
 pub mod Children
 pub mod Elements
 pub mod Dummies
+pub mod Laws
 pub mod Classes

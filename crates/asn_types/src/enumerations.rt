@@ -6,7 +6,8 @@ ghost use Rattle.asn_rules.specs.declared.names.TheConstants.{ENUMERATED};
 ghost use Rattle.asn_types.specs.Enumerations.{an_enumerated, numbered, numbers_of, numbers_written};
 ghost use Rattle.asn_types.specs.Forms.{enumerated_type_of};
 ghost use Rattle.asn_numbers.specs.Enumeration.{NumbersPass};
-ghost use Rattle.std.specs.Prelude.{◌≡◌, ◌++◌, IfOk, Some, length};
+ghost use Rattle.std.specs.Option.{option_map};
+ghost use Rattle.std.specs.Prelude.{◌≡◌, IfOk, Some};
 
 use asn_kinds::Enumeral;
 use asn_markers::ExtensionMarker;
@@ -39,17 +40,28 @@ fn with_number(item: WrittenItem, index: i128) -> Enumeral
     }
 }
 
-/// The items with their numbers.
-fn numbered(alloc: Global, items: List<WrittenItem>, numbers: &[i128]) -> Mem<List<Enumeral>>
-    requires { length items ≡ length numbers.now }
+/// The items with their numbers, as many as there are numbers for.
+#[tactic(auto, using(crate::proofs::Numbered::takes_number, crate::proofs::Numbered::takes_none))]
+fn numbered(alloc: Global, items: List<WrittenItem>, numbers: &List<i128>) -> Mem<List<Enumeral>>
     ensures { IfOk result (λ made. made ≡ numbered items numbers.now) }
 {
     let mut made = List::new(alloc);
     for item in items.into_vec() {
-        let index = numbers[made.len()];
-        made.add(with_number(item, index))?;
+        if let Some(index) = numbers.get(made.len()) {
+            made.add(with_number(item, *index))?;
+        }
     }
     Ok(made)
+}
+
+/// How many items stand before the extension marker, where there is one.
+fn extensible(marker: Option<ExtensionMarker>, before: usize) -> Option<usize>
+    ensures { result ≡ option_map (λ _. before) marker }
+{
+    match marker {
+        Some(_) => Some(before),
+        None => None,
+    }
 }
 
 /// The ENUMERATED of items before an extension marker and behind it, with the numbers of all of them.
@@ -58,19 +70,16 @@ fn enumerated(
     root: List<WrittenItem>,
     additions: List<WrittenItem>,
     marker: Option<ExtensionMarker>,
-    numbers: &[i128],
+    numbers: &List<i128>,
 ) -> Mem<ASN1Type>
-    requires { length (root ++ additions) ≡ length numbers.now }
     ensures { IfOk result (λ ty. ty ≡ an_enumerated root additions marker numbers.now) }
 {
-    let extensible = match marker {
-        Some(_) => Some(root.len()),
-        None => None,
-    };
+    let extensible = extensible(marker, root.len());
     let mut items = root;
     items.append(additions)?;
+    let members = numbered(alloc, items, numbers)?;
     Ok(ASN1Type::Enumerated(Enumerated {
-        members: numbered(alloc, items, numbers)?,
+        members,
         extensible,
         constraints: List::new(alloc),
     }))
@@ -90,7 +99,7 @@ fn numbers(alloc: Global, root: &[Option<i128>], additions: &[Option<i128>]) -> 
 
 /// ENUMERATED: its items with their numbers and comments; it is extensible behind those before the extension marker
 /// (X.680 20.1).
-#[tactic(auto, using(crate::proofs::ViewsTypes::enumerated_has_root, crate::proofs::ViewsTypes::enumerated_has_additions, crate::proofs::Items::numbers_fit, crate::proofs::Numbers::as_many))]
+#[tactic(auto, using(crate::proofs::ViewsTypes::enumerated_has_root, crate::proofs::ViewsTypes::enumerated_has_additions, crate::proofs::Items::numbers_fit))]
 pub(crate) fn read_enumerated(alloc: Global, text: &[u8], node: &Node) -> Mem<ASN1Type>
     requires { Is whole_rules text.now ENUMERATED node.now }
     ensures { IfOk result (λ ty. enumerated_type_of text.now node.now ≡ Some ty) }
@@ -101,5 +110,5 @@ pub(crate) fn read_enumerated(alloc: Global, text: &[u8], node: &Node) -> Mem<AS
     let of_additions = numbers_written(alloc, additions.as_slice())?;
     let numbers = numbers(alloc, of_root.as_slice(), of_additions.as_slice())?;
     let marker = read_extension(node);
-    Ok(enumerated(alloc, root, additions, marker, numbers.as_slice())?)
+    Ok(enumerated(alloc, root, additions, marker, &numbers)?)
 }

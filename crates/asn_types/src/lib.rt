@@ -13,6 +13,7 @@ mod constraints;
 mod dummies;
 mod elements;
 mod enumerations;
+mod laws;
 mod members;
 mod objects;
 mod ranges;
@@ -25,6 +26,7 @@ pub use asn_pieces::{
 };
 pub use classes::{built_in_class, read_class};
 pub use dummies::read_parameterization;
+pub use laws::numbers_are_the_standards;
 pub use objects::{read_object, read_object_set};
 pub use readers::constraints::{constraint, parameterization, parameters, single_constraint};
 pub use readers::objects::{

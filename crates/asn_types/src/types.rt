@@ -2,7 +2,7 @@
 
 ghost use Rattle.asn_rules.specs.Children.{Is, StandsBy};
 ghost use Rattle.asn_rules.specs.Whole.{whole_rules};
-ghost use Rattle.asn_rules.specs.declared.names.TheConstants.{ASN1_TYPE, BIT_STRING, BOOLEAN, CHARACTER_STRING, CLASS_NAME, ELEMENT, ELSEWHERE_DECLARED_TYPE, GENERALIZED_TIME, INFORMATION_OBJECT_FIELD_REFERENCE, INSTANCE_OF, INTEGER, OBJECT_IDENTIFIER, OCTET_STRING, REAL, SELECTION_TYPE_CHOICE, SEQUENCE, SEQUENCE_OF, SET, SET_OF, TIME, UTC_TIME};
+ghost use Rattle.asn_rules.specs.declared.names.TheConstants.{ASN1_TYPE, BIT_STRING, BOOLEAN, CHARACTER_STRING, ELEMENT, ELSEWHERE_DECLARED_TYPE, GENERALIZED_TIME, INFORMATION_OBJECT_FIELD_REFERENCE, INSTANCE_OF, INTEGER, OBJECT_IDENTIFIER, OCTET_STRING, REAL, SELECTION_TYPE_CHOICE, SEQUENCE, SEQUENCE_OF, SET, SET_OF, TIME, UTC_TIME};
 ghost use Rattle.asn_types.specs.Forms.{bit_string_type_of, boolean_type_of, character_string_type_of, constraints_behind, elsewhere_type_of, field_reference_of, field_type_of, generalized_time_type_of, instance_of_type_of, integer_type_of, object_identifier_type_of, octet_string_type_of, real_type_of, selection_type_of, sequence_of_type_of, sequence_type_of, set_of_type_of, set_type_of, time_type_of, utc_time_type_of};
 ghost use Rattle.asn_types.specs.Reading.{element_of, form_of, type_of};
 ghost use Rattle.asn_types.specs.Types.{IsType, constrained_body, named_numbers, type_field, type_named};
@@ -249,7 +249,7 @@ fn type_field(alloc: Global) -> Mem<List<ObjectFieldIdentifier>>
     ensures { IfOk result (λ path. path ≡ type_field) }
 {
     let name = Text::new(alloc, "&Type")?;
-    List::of(alloc, ObjectFieldIdentifier::MultipleValue(name))
+    Ok(List::of(alloc, ObjectFieldIdentifier::MultipleValue(name))?)
 }
 
 /// INSTANCE OF a class: the type of that class's field `&Type` (X.681 Annex C).
@@ -279,15 +279,14 @@ fn named(
 ) -> Mem<ASN1Type>
     ensures { IfOk result (λ ty. ty ≡ type_named parent name constraints) }
 {
-    let name = name.as_str();
     match parent {
         Some(parent) => Ok(ASN1Type::builtin_or_elsewhere(
             alloc,
             Some(parent.as_str()),
-            name,
+            name.as_str(),
             Some(constraints),
         )?),
-        None => Ok(ASN1Type::builtin_or_elsewhere(alloc, None, name, Some(constraints))?),
+        None => Ok(ASN1Type::builtin_or_elsewhere(alloc, None, name.as_str(), Some(constraints))?),
     }
 }
 

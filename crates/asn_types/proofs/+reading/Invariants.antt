@@ -9,11 +9,11 @@ use Rattle.asn_types.proofs.+reading.Given as goal
 
 -- ---- types
 
-abbrev pub invariant-read_component_list-loop-node : goal.invariant-read_component_list-loop-node
-invariant-read_component_list-loop-node l = behind l.components (components_in l.text (drop l.node-index l.nodes)) ≡ components_in l.text l.nodes
+abbrev pub invariant-members::read_component_list-loop-node : goal.invariant-members::read_component_list-loop-node
+invariant-members::read_component_list-loop-node l = behind l.components (components_in l.text (drop l.node-index l.nodes)) ≡ components_in l.text l.nodes
 
-abbrev pub invariant-read_option_list-loop-node : goal.invariant-read_option_list-loop-node
-invariant-read_option_list-loop-node l = behind l.options (options_in l.text (drop l.node-index l.nodes)) ≡ options_in l.text l.nodes
+abbrev pub invariant-choices::read_option_list-loop-node : goal.invariant-choices::read_option_list-loop-node
+invariant-choices::read_option_list-loop-node l = behind l.options (options_in l.text (drop l.node-index l.nodes)) ≡ options_in l.text l.nodes
 
 -- ---- constraints
 
