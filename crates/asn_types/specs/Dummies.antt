@@ -1,5 +1,5 @@
 -- The parameters of templates (X.683 8.1).
-use Rattle.std.specs.Prelude.{ℕ, List, Option, Some, None}
+use Rattle.std.specs.Prelude.{ℕ, List, Option, Some}
 use Rattle.asn_rules.specs.declared.names.TheConstants.{ASN1_TYPE, DUMMY, IDENTIFIER, VALUE_IDENTIFIER}
 use Rattle.asn_rules.specs.declared.node.Node.{Node}
 use Rattle.asn_rules.specs.declared.node.Node.TheViews.{out-Node}

@@ -2,6 +2,7 @@
 //!
 //! `constraints.rt` calls these for what stands in parentheses, and `elements.rt` for what stands behind SIZE and FROM.
 
+ghost use Rattle.asn_literals.specs.Parts.{of_some};
 ghost use Rattle.asn_rules.specs.Children.{Is};
 ghost use Rattle.asn_rules.specs.Whole.{whole_rules};
 ghost use Rattle.asn_rules.specs.declared.names.TheConstants.{ELEMENT_SET, SET_OPERATION, SET_REST};
@@ -49,17 +50,35 @@ pub(crate) fn read_rest(alloc: Global, text: &[u8], node: &Node) -> Mem<ElementO
 
 /// An element, an operator, and what stands behind it.
 fn joined(
+    alloc: Global,
     base: SubtypeElement,
     operator: SetOperator,
-    operant: Box<ElementOrSetOperation>,
-) -> ElementOrSetOperation
-    ensures { result ≡ an_operation base operator operant }
+    rest: ElementOrSetOperation,
+) -> Mem<ElementOrSetOperation>
+    ensures { IfOk result (λ operation. operation ≡ an_operation base operator rest) }
 {
-    ElementOrSetOperation::SetOperation(SetOperation {
+    let operant = Box::new(alloc, rest)?;
+    Ok(ElementOrSetOperation::SetOperation(SetOperation {
         base,
         operator,
         operant,
-    })
+    }))
+}
+
+/// An element, an operator, and what is left of the set behind it.
+#[cycle(reading)]
+fn read_behind_operator(
+    alloc: Global,
+    text: &[u8],
+    node: &Node,
+    base: SubtypeElement,
+    operator: SetOperator,
+) -> Mem<ElementOrSetOperation>
+    requires { Is whole_rules text.now SET_REST node.now }
+    ensures { IfOk result (λ operation. of_some (rest_of text.now node.now) (λ rest. Some (an_operation base operator rest)) ≡ Some operation) }
+{
+    let rest = read_rest(alloc, text, node)?;
+    Ok(joined(alloc, base, operator, rest)?)
 }
 
 /// An element, an operator, and what is left behind it; operators group to the right (X.680 50.1).
@@ -71,6 +90,6 @@ fn read_operation(alloc: Global, text: &[u8], node: &Node) -> Mem<ElementOrSetOp
 {
     let operator = read_operator(text, node.the_child(names::SET_OPERATOR));
     let base = read_subtype(alloc, text, node.the_child(names::SUBTYPE_ELEMENT))?;
-    let rest = read_rest(alloc, text, node.the_child(names::SET_REST))?;
-    Ok(joined(base, operator, Box::new(alloc, rest)?))
+    let rest = node.the_child(names::SET_REST);
+    Ok(read_behind_operator(alloc, text, rest, base, operator)?)
 }
