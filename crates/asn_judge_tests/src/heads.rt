@@ -1,0 +1,66 @@
+//! Each head, with a tree of its kind and with one of another kind (X.680 clauses 18 to 47, X.681 14.2).
+
+use crate::constraints::free;
+use crate::judging::{no, yes};
+use crate::rows::first_wrong;
+use crate::trees::{bits, text, truth, whole};
+use crate::types::{bits_with, boolean, field_of_class, integer_with, octets_with, string_with};
+use asn_memory::List;
+use asn_shapes::Tree;
+use asn_tree::{
+    ASN1Type, CharacterStringType, ObjectIdentifier, ObjectIdentifierValue, Real, RealValue,
+};
+
+#[test]
+fn numbers_and_truths(rt: HostRuntime) {
+    let alloc = rt.alloc();
+    assert_eq!(rt;
+        first_wrong(&[
+            yes(alloc, Ok(ASN1Type::Null), Ok(Tree::Null)),
+            no(alloc, Ok(ASN1Type::Null), whole(0)),
+            yes(alloc, boolean(alloc), truth(true)),
+            no(alloc, boolean(alloc), whole(1)),
+            yes(alloc, integer_with(free(alloc)), whole(-5)),
+            no(alloc, integer_with(free(alloc)), Ok(Tree::Item(5))),
+            yes(
+                alloc,
+                Ok(ASN1Type::Real(Real {
+                    constraints: List::new(alloc)
+                })),
+                Ok(Tree::Real(RealValue {
+                    mantissa: 15,
+                    base: 10,
+                    exponent: -1
+                }))
+            ),
+            no(
+                alloc,
+                Ok(ASN1Type::Real(Real {
+                    constraints: List::new(alloc)
+                })),
+                whole(3)
+            ),
+        ]),
+        None
+    );
+}
+
+#[test]
+fn strings_and_open_types(rt: HostRuntime) {
+    let alloc = rt.alloc();
+    assert_eq!(rt;
+        first_wrong(&[
+            yes(alloc, bits_with(free(alloc)), bits(alloc, &[true, false])),
+            no(alloc, bits_with(free(alloc)), Ok(Tree::Octets(List::new(alloc)))),
+            yes(alloc, octets_with(free(alloc)), Ok(Tree::Octets(List::new(alloc)))),
+            // NumericString
+            yes(alloc, string_with(CharacterStringType::NumericString, free(alloc)), text(alloc, "1 2")),
+            no(alloc, string_with(CharacterStringType::NumericString, free(alloc)), text(alloc, "1a")),
+            yes(alloc, Ok(ASN1Type::ObjectIdentifier(ObjectIdentifier { constraints: List::new(alloc) })), Ok(Tree::Oid(ObjectIdentifierValue(List::new(alloc))))),
+            no(alloc, Ok(ASN1Type::ObjectIdentifier(ObjectIdentifier { constraints: List::new(alloc) })), text(alloc, "1.2")),
+            // TYPE-IDENTIFIER.&Type: an open type accepts every tree
+            yes(alloc, field_of_class(alloc, "TYPE-IDENTIFIER", "&Type", true, free(alloc)), Ok(Tree::Opaque)),
+        ]),
+        None
+    );
+}
