@@ -1,7 +1,7 @@
 //! The calls that the judge makes: which whole numbers are left (X.680 51.4), what values denote (X.680 clause 17, 51.2), which
 //! trees have the shape of a type, and what is said at a place with constraints.
 
-use crate::constraints::{alone, free, joined, marked, name_value, one, only, range};
+use crate::constraints::{alone, free, joined, marked, one, only, range};
 use crate::definitions::types;
 use crate::pairs::{both, with};
 use crate::rows::first_wrong;

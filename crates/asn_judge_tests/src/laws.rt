@@ -83,6 +83,11 @@ fn same_trees_and_tags(rt: HostRuntime) {
                 fields_of_one(alloc, "a", whole(1)),
                 false
             ),
+            same(
+                elements(alloc, whole(1), whole(2)),
+                elements(alloc, whole(2), whole(1)),
+                false
+            ),
             same(whole(5), Ok(Tree::Item(5)), false),
             says(
                 alloc,

@@ -1,7 +1,7 @@
 //! Names of types, selections, contained subtypes, COMPONENTS OF, and fields of classes and of objects (X.680 25.5, clause 30,
 //! 51.3, X.681 clauses 14 and 15).
 
-use crate::constraints::{alone, free, included, joined, one, range, single, subtype};
+use crate::constraints::{alone, included, joined, one, range, single, subtype};
 use crate::definitions::{class, object, types};
 use crate::judging::says;
 use crate::pairs::list_of;

@@ -83,7 +83,6 @@ fn dummies_that_are_values(rt: HostRuntime) {
     let alloc = rt.alloc();
     assert_eq!(rt;
         first_wrong(&[
-
             says(alloc, of_numbers(alloc), of_value(alloc, "Again", Ok(ASN1Value::Integer(7))), whole(5), Answer::Yes),
             says(alloc, of_numbers(alloc), of_value(alloc, "Again", Ok(ASN1Value::Integer(7))), whole(8), Answer::No),
             says(alloc, of_numbers(alloc), of_value(alloc, "Nest", Ok(ASN1Value::Integer(7))), fields_of_two(alloc, "a", whole(2), "b", whole(7)), Answer::Yes),
