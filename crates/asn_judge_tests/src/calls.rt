@@ -190,13 +190,13 @@ fn values(rt: HostRuntime) {
 // ---- shapes and places
 
 // Whether the tree has the shape of the type, whatever its constraints say.
-fn shaped(alloc: Global, name: &str, tree: Mem<Tree>, answer: Answer) -> Mem<bool> {
+fn shaped(alloc: Global, steps: usize, name: &str, tree: Mem<Tree>, answer: Answer) -> Mem<bool> {
     let (definitions, (ty, tree)) = both(types(alloc), both(named(alloc, name), tree))?;
     let place = Place {
         scope: Scope::Empty,
         ty: TypeForm::Written(&ty),
     };
-    Ok(fits(alloc, definitions.as_slice(), 8, &place, &tree)? == answer)
+    Ok(fits(alloc, definitions.as_slice(), steps, &place, &tree)? == answer)
 }
 
 // What is said of a whole number by INTEGER (0..9) at a place with (5..20).
@@ -228,6 +228,7 @@ fn members_of_s(alloc: Global, count: usize) -> Mem<bool> {
     }
 }
 
+// What S accepts has its shape, and so has what the value above denotes under it; a shape that is known stays with more steps.
 #[test]
 fn shapes_and_places(rt: HostRuntime) {
     let alloc = rt.alloc();
@@ -235,12 +236,35 @@ fn shapes_and_places(rt: HostRuntime) {
         first_wrong(&[
             shaped(
                 alloc,
+                8,
+                "S",
+                fields_of_one(alloc, "a", whole(7)),
+                Answer::Yes
+            ),
+            shaped(
+                alloc,
+                8,
                 "S",
                 fields_of_one(alloc, "a", whole(100)),
                 Answer::Yes
             ),
             shaped(
                 alloc,
+                0,
+                "S",
+                fields_of_one(alloc, "a", truth(true)),
+                Answer::Unknown
+            ),
+            shaped(
+                alloc,
+                8,
+                "S",
+                fields_of_one(alloc, "a", truth(true)),
+                Answer::No
+            ),
+            shaped(
+                alloc,
+                9,
                 "S",
                 fields_of_one(alloc, "a", truth(true)),
                 Answer::No

@@ -65,6 +65,8 @@ fn elements_and_alternatives(rt: HostRuntime) {
             says(alloc, types(alloc), named_with(alloc, "C", components(alloc, false, listed(alloc, "i", alone(alloc, range(0, 3)), ComponentPresence::Unspecified))), chosen(alloc, "i", whole(3)), Answer::Yes),
             says(alloc, types(alloc), named_with(alloc, "C", components(alloc, false, listed(alloc, "i", alone(alloc, range(0, 3)), ComponentPresence::Unspecified))), chosen(alloc, "i", whole(5)), Answer::No),
             says(alloc, types(alloc), named_with(alloc, "C", components(alloc, false, listed(alloc, "i", alone(alloc, range(0, 3)), ComponentPresence::Unspecified))), chosen(alloc, "b", truth(true)), Answer::No),
+            // C (WITH COMPONENTS { ..., i PRESENT })
+            says(alloc, types(alloc), named_with(alloc, "C", components(alloc, true, listed(alloc, "i", free(alloc), ComponentPresence::Present))), chosen(alloc, "b", truth(true)), Answer::No),
             // C (WITH COMPONENTS { ..., i ABSENT })
             says(alloc, types(alloc), named_with(alloc, "C", components(alloc, true, listed(alloc, "i", free(alloc), ComponentPresence::Absent))), chosen(alloc, "b", truth(true)), Answer::Yes),
         ]),

@@ -8,7 +8,8 @@ use crate::types::{bits_with, boolean, field_of_class, integer_with, octets_with
 use asn_memory::List;
 use asn_shapes::Tree;
 use asn_tree::{
-    ASN1Type, CharacterStringType, ObjectIdentifier, ObjectIdentifierValue, Real, RealValue,
+    ASN1Type, CharacterStringType, GeneralizedTime, ObjectIdentifier, ObjectIdentifierValue, Real,
+    RealValue, Time, UTCTime,
 };
 
 #[test]
@@ -60,6 +61,49 @@ fn strings_and_open_types(rt: HostRuntime) {
             no(alloc, Ok(ASN1Type::ObjectIdentifier(ObjectIdentifier { constraints: List::new(alloc) })), text(alloc, "1.2")),
             // TYPE-IDENTIFIER.&Type: an open type accepts every tree
             yes(alloc, field_of_class(alloc, "TYPE-IDENTIFIER", "&Type", true, free(alloc)), Ok(Tree::Opaque)),
+        ]),
+        None
+    );
+}
+
+// EMBEDDED PDV and EXTERNAL accept the opaque tree alone.
+#[test]
+fn times_and_types_of_which_nothing_is_known(rt: HostRuntime) {
+    let alloc = rt.alloc();
+    assert_eq!(rt;
+        first_wrong(&[
+            yes(
+                alloc,
+                Ok(ASN1Type::UTCTime(UTCTime {
+                    constraints: List::new(alloc)
+                })),
+                text(alloc, "0906011200Z")
+            ),
+            no(
+                alloc,
+                Ok(ASN1Type::UTCTime(UTCTime {
+                    constraints: List::new(alloc)
+                })),
+                whole(906011200)
+            ),
+            yes(
+                alloc,
+                Ok(ASN1Type::GeneralizedTime(GeneralizedTime {
+                    constraints: List::new(alloc)
+                })),
+                text(alloc, "20090601120000Z")
+            ),
+            yes(
+                alloc,
+                Ok(ASN1Type::Time(Time {
+                    constraints: List::new(alloc)
+                })),
+                text(alloc, "2009-06-01")
+            ),
+            yes(alloc, Ok(ASN1Type::EmbeddedPdv), Ok(Tree::Opaque)),
+            no(alloc, Ok(ASN1Type::EmbeddedPdv), Ok(Tree::Null)),
+            yes(alloc, Ok(ASN1Type::External), Ok(Tree::Opaque)),
+            no(alloc, Ok(ASN1Type::External), whole(1)),
         ]),
         None
     );

@@ -11,11 +11,14 @@ use crate::trees::{bits, elements, text, truth, whole};
 use crate::types::{
     bits_with, integer_with, number_in, octets_with, sequence_of_with, string_with,
 };
-use asn_memory::List;
+use asn_memory::{List, Mem};
+use asn_settings::{BasicSettings, PropertyAndSettingsPair, PropertySettings};
 use asn_shapes::Tree;
 use asn_tree::{
-    ASN1Type, CharacterStringType, Constraint, ContentConstraint, ObjectSet, TableConstraint,
+    ASN1Type, CharacterStringType, Constraint, ContentConstraint, ObjectSet, SubtypeElement,
+    TableConstraint, Time,
 };
+use std::alloc::Global;
 
 #[test]
 fn sizes(rt: HostRuntime) {
@@ -25,7 +28,8 @@ fn sizes(rt: HostRuntime) {
             // BIT STRING (SIZE (3))
             yes(alloc, bits_with(alone(alloc, size(alloc, only(3)))), bits(alloc, &[true, false, false])),
             no(alloc, bits_with(alone(alloc, size(alloc, only(3)))), bits(alloc, &[true, false])),
-            // OCTET STRING (SIZE (1))
+            // OCTET STRING (SIZE (0)), OCTET STRING (SIZE (1))
+            yes(alloc, octets_with(alone(alloc, size(alloc, only(0)))), Ok(Tree::Octets(List::new(alloc)))),
             no(alloc, octets_with(alone(alloc, size(alloc, only(1)))), Ok(Tree::Octets(List::new(alloc)))),
             // UTF8String (SIZE (INCLUDES INTEGER (0..2)))
             yes(alloc, string_with(CharacterStringType::UTF8String, alone(alloc, size(alloc, included(number_in(alloc, range(0, 2)))))), text(alloc, "\u{e9}\u{20ac}")),
@@ -57,6 +61,18 @@ fn characters(rt: HostRuntime) {
     );
 }
 
+// TIME (SETTINGS "Basic=Date")
+fn dates(alloc: Global) -> Mem<ASN1Type> {
+    let setting = PropertyAndSettingsPair::Basic(BasicSettings::Date);
+    let property_settings_list = List::of(alloc, setting)?;
+    let settings = PropertySettings {
+        property_settings_list,
+    };
+    Ok(ASN1Type::Time(Time {
+        constraints: alone(alloc, Ok(SubtypeElement::PropertySettings(settings)))?,
+    }))
+}
+
 #[test]
 fn constraints_that_say_yes(rt: HostRuntime) {
     let alloc = rt.alloc();
@@ -66,6 +82,7 @@ fn constraints_that_say_yes(rt: HostRuntime) {
             yes(alloc, string_with(CharacterStringType::IA5String, alone(alloc, pattern(alloc, "[0-9]"))), text(alloc, "ab")),
             // INTEGER (CONSTRAINED BY { -- prime -- })
             yes(alloc, number_in(alloc, constrained_by(alloc, "-- prime --")), whole(4)),
+            yes(alloc, dates(alloc), text(alloc, "12:00")),
             // OCTET STRING (CONTAINING NULL)
             yes(alloc, octets_with(List::of(alloc, Constraint::ContentConstraint(ContentConstraint::Containing(ASN1Type::Null)))), Ok(Tree::Octets(List::new(alloc)))),
             // INTEGER ({})
