@@ -9,7 +9,7 @@ use crate::trees::{fields_of_one, truth, whole};
 use crate::types::{boolean, integer_with, named, number_in};
 use asn_denotes::{Denotation, denotes, is_all};
 use asn_heads::{Place, Scope, TypeForm, ValueForm};
-use asn_judge::{accepts, same_tree};
+use asn_judge::{accepts, holds, same_tree};
 use asn_memory::{List, Mem, Text};
 use asn_ranges::{Numbers, Parent, chain, narrowed, numbers, range as range_of};
 use asn_shapes::{Answer, Tree, fits, members_of};
@@ -210,6 +210,25 @@ fn at_a_place(alloc: Global, tree: Mem<Tree>, answer: Answer) -> Mem<bool> {
     Ok(accepts(alloc, &[], 8, &place, constraints.as_slice(), &tree)? == answer)
 }
 
+// What is said of a whole number by 0..9, put on the numbers from 5 on.
+fn above_five_holds(alloc: Global, number: i128, answer: Answer) -> Mem<bool> {
+    let (ty, element) = both(integer_with(free(alloc)), range(0, 9))?;
+    let head = Place {
+        scope: Scope::Empty,
+        ty: TypeForm::Written(&ty),
+    };
+    let before = Some(Numbers::From {
+        left_out: false,
+        number: 5,
+    });
+    let parent = Parent::Values {
+        head: &head,
+        numbers: &before,
+    };
+    let tree = Tree::Whole(number);
+    Ok(holds(alloc, &[], 8, &Scope::Empty, parent, &element, &tree)? == answer)
+}
+
 // How many members S has.
 fn members_of_s(alloc: Global, count: usize) -> Mem<bool> {
     let definitions = types(alloc)?;
@@ -272,6 +291,8 @@ fn shapes_and_places(rt: HostRuntime) {
             members_of_s(alloc, 4),
             at_a_place(alloc, whole(7), Answer::Yes),
             at_a_place(alloc, whole(3), Answer::No),
+            above_five_holds(alloc, 9, Answer::Yes),
+            above_five_holds(alloc, 10, Answer::No),
         ]),
         None
     );
