@@ -4,9 +4,8 @@ use asn_markers::ExtensionMarker;
 use asn_memory::{Box, List, Mem, Text};
 use asn_shapes::{Field, Tree};
 use asn_tree::{
-    ASN1Type, Boolean, Choice, ChoiceOption, DeclarationElsewhere, Integer, SequenceComponent,
-    SequenceOrSet, SequenceOrSetMember, SequenceOrSetOf, ToplevelDefinition,
-    ToplevelTypeDefinition,
+    ASN1Type, Boolean, DeclarationElsewhere, Integer, SequenceComponent, SequenceOrSet,
+    SequenceOrSetMember, SequenceOrSetOf, ToplevelDefinition, ToplevelTypeDefinition,
 };
 use std::alloc::Global;
 
@@ -112,14 +111,6 @@ pub fn extended(
 pub fn sequence_of(alloc: Global, ty: ASN1Type) -> Mem<ASN1Type> {
     let made = SequenceOrSetOf::from_parts(alloc, None, ty)?;
     Ok(ASN1Type::SequenceOf(made))
-}
-
-/// A CHOICE of one option.
-pub fn choice(alloc: Global, name: &str, ty: ASN1Type) -> Mem<ASN1Type> {
-    let option = ChoiceOption::from_parts(alloc, name, None, ty, None)?;
-    let options = List::of(alloc, option)?;
-    let made = Choice::from_parts(alloc, options, None, None)?;
-    Ok(ASN1Type::Choice(made))
 }
 
 /// The definition of a type.

@@ -1,0 +1,299 @@
+//! The calls that the judge makes: which whole numbers are left (X.680 51.4), what values denote (X.680 clause 17, 51.2), which
+//! trees have the shape of a type, and what is said at a place with constraints.
+
+use crate::constraints::{alone, free, joined, marked, one, only, range};
+use crate::definitions::types;
+use crate::pairs::{both, with};
+use crate::rows::first_wrong;
+use crate::trees::{fields_of_one, truth, whole};
+use crate::types::{boolean, integer_with, named, number_in};
+use asn_denotes::{Denotation, denotes, is_all};
+use asn_heads::{Place, Scope, TypeForm, ValueForm};
+use asn_judge::{accepts, holds, same_tree};
+use asn_memory::{List, Mem, Text};
+use asn_ranges::{Numbers, Parent, chain, narrowed, numbers, range as range_of};
+use asn_shapes::{Answer, Tree, fits, members_of};
+use asn_tree::{
+    ASN1Type, ASN1Value, ObjectIdentifierArc, ObjectIdentifierValue, Real, RealValue, SetOperator,
+    ToplevelDefinition,
+};
+use std::alloc::Global;
+
+// ---- whole numbers
+
+fn has(alloc: Global, found: Mem<Option<Numbers>>, number: i128, answer: bool) -> Mem<bool> {
+    match found? {
+        None => Ok(false),
+        Some(set) => Ok(set.has(alloc, number)? == answer),
+    }
+}
+
+// INTEGER (0..9), at a place with (5..20)
+fn left(alloc: Global) -> Mem<Option<Numbers>> {
+    let (ty, constraints) = both(number_in(alloc, range(0, 9)), alone(alloc, range(5, 20)))?;
+    let place = Place {
+        scope: Scope::Empty,
+        ty: TypeForm::Written(&ty),
+    };
+    numbers(alloc, &[], 8, &place, constraints.as_slice())
+}
+
+// the numbers from 5 on, narrowed by (MIN<..MAX), which is the range of the same ends
+fn above_five(alloc: Global, by_constraint: bool) -> Mem<Option<Numbers>> {
+    let mark = alone(alloc, marked(None, true, None, false));
+    let (ty, constraints) = both(integer_with(free(alloc)), mark)?;
+    let head = Place {
+        scope: Scope::Empty,
+        ty: TypeForm::Written(&ty),
+    };
+    let before = Some(Numbers::From {
+        left_out: false,
+        number: 5,
+    });
+    if by_constraint {
+        match constraints.get(0) {
+            None => return Ok(None),
+            Some(first) => {
+                return narrowed(alloc, &[], 8, &Scope::Empty, &head, &before, first);
+            }
+        }
+    }
+    let parent = Parent::Values {
+        head: &head,
+        numbers: &before,
+    };
+    range_of(
+        alloc,
+        &[],
+        8,
+        &Scope::Empty,
+        parent,
+        None,
+        None,
+        true,
+        false,
+    )
+}
+
+// 1 | 2 ^ 3, whose elements are found in three steps
+fn in_order(alloc: Global, steps: usize, count: Option<usize>) -> Mem<bool> {
+    let behind = joined(alloc, only(2), SetOperator::Intersection, one(only(3)));
+    let set = joined(alloc, only(1), SetOperator::Union, behind)?;
+    match chain(alloc, steps, &set)? {
+        None => Ok(count == None),
+        Some(found) => Ok(count == Some(found.others.len())),
+    }
+}
+
+#[test]
+fn whole_numbers(rt: HostRuntime) {
+    let alloc = rt.alloc();
+    assert_eq!(rt;
+        first_wrong(&[
+            has(alloc, left(alloc), 7, true),
+            has(alloc, above_five(alloc, true), 5, false),
+            has(alloc, above_five(alloc, false), 5, false),
+            in_order(alloc, 3, Some(2)),
+        ]),
+        None
+    );
+}
+
+// ---- what values denote
+
+// Whether the value denotes this tree under the type.
+fn gives(
+    alloc: Global,
+    value: Mem<ASN1Value>,
+    ty: Mem<ASN1Type>,
+    tree: Mem<Tree>,
+    answer: bool,
+) -> Mem<bool> {
+    let (definitions, (value, (ty, tree))) = both(types(alloc), both(value, both(ty, tree)))?;
+    let place = Place {
+        scope: Scope::Empty,
+        ty: TypeForm::Written(&ty),
+    };
+    let form = ValueForm::Written(&value);
+    let slice = definitions.as_slice();
+    match denotes(alloc, slice, 12, &Scope::Empty, form, &place)? {
+        Denotation::Denoted(found) => Ok(same_tree(&found, &tree) == answer),
+        Denotation::Nothing => Ok(!answer),
+        Denotation::Unsure => Ok(false),
+    }
+}
+
+// { a 7 }, read as two arcs
+fn a_and_seven(alloc: Global) -> Mem<ASN1Value> {
+    let arc = ObjectIdentifierArc {
+        name: Some(Text::new(alloc, "a")?),
+        number: None,
+    };
+    let number = ObjectIdentifierArc {
+        name: None,
+        number: Some(7),
+    };
+    let arcs = with(List::of(alloc, arc), Ok(number))?;
+    Ok(ASN1Value::ObjectIdentifier(ObjectIdentifierValue(arcs)))
+}
+
+// Whether the value stands for ALL under INTEGER.
+fn is_everything(alloc: Global, value: Mem<ASN1Value>, answer: Answer) -> Mem<bool> {
+    let (value, ty) = both(value, integer_with(free(alloc)))?;
+    let place = Place {
+        scope: Scope::Empty,
+        ty: TypeForm::Written(&ty),
+    };
+    let form = ValueForm::Written(&value);
+    Ok(is_all(alloc, &[], 12, &Scope::Empty, form, &place)? == answer)
+}
+
+// A whole number is a real too, and what was read as arcs is a field under a SEQUENCE.
+#[test]
+fn values(rt: HostRuntime) {
+    let alloc = rt.alloc();
+    assert_eq!(rt;
+        first_wrong(&[
+            gives(
+                alloc,
+                Ok(ASN1Value::Integer(3)),
+                Ok(ASN1Type::Real(Real {
+                    constraints: List::new(alloc)
+                })),
+                Ok(Tree::Real(RealValue {
+                    mantissa: 3,
+                    base: 10,
+                    exponent: 0
+                })),
+                true
+            ),
+            gives(
+                alloc,
+                Ok(ASN1Value::Integer(3)),
+                boolean(alloc),
+                whole(3),
+                false
+            ),
+            gives(
+                alloc,
+                a_and_seven(alloc),
+                named(alloc, "S"),
+                fields_of_one(alloc, "a", whole(7)),
+                true
+            ),
+            is_everything(alloc, Ok(ASN1Value::All), Answer::Yes),
+        ]),
+        None
+    );
+}
+
+// ---- shapes and places
+
+// Whether the tree has the shape of the type, whatever its constraints say.
+fn shaped(alloc: Global, steps: usize, name: &str, tree: Mem<Tree>, answer: Answer) -> Mem<bool> {
+    let (definitions, (ty, tree)) = both(types(alloc), both(named(alloc, name), tree))?;
+    let place = Place {
+        scope: Scope::Empty,
+        ty: TypeForm::Written(&ty),
+    };
+    Ok(fits(alloc, definitions.as_slice(), steps, &place, &tree)? == answer)
+}
+
+// What is said of a whole number by INTEGER (0..9) at a place with (5..20).
+fn at_a_place(alloc: Global, tree: Mem<Tree>, answer: Answer) -> Mem<bool> {
+    let digit = number_in(alloc, range(0, 9));
+    let (ty, (constraints, tree)) = both(digit, both(alone(alloc, range(5, 20)), tree))?;
+    let place = Place {
+        scope: Scope::Empty,
+        ty: TypeForm::Written(&ty),
+    };
+    Ok(accepts(alloc, &[], 8, &place, constraints.as_slice(), &tree)? == answer)
+}
+
+// What is said of a whole number by 0..9, put on the numbers from 5 on.
+fn above_five_holds(alloc: Global, number: i128, answer: Answer) -> Mem<bool> {
+    let (ty, element) = both(integer_with(free(alloc)), range(0, 9))?;
+    let head = Place {
+        scope: Scope::Empty,
+        ty: TypeForm::Written(&ty),
+    };
+    let before = Some(Numbers::From {
+        left_out: false,
+        number: 5,
+    });
+    let parent = Parent::Values {
+        head: &head,
+        numbers: &before,
+    };
+    let tree = Tree::Whole(number);
+    Ok(holds(alloc, &[], 8, &Scope::Empty, parent, &element, &tree)? == answer)
+}
+
+// How many members S has.
+fn members_of_s(alloc: Global, count: usize) -> Mem<bool> {
+    let definitions = types(alloc)?;
+    match definitions.get(2) {
+        Some(ToplevelDefinition::TypeDef(definition)) => {
+            let head = Place {
+                scope: Scope::Empty,
+                ty: TypeForm::Written(&definition.ty),
+            };
+            match members_of(alloc, definitions.as_slice(), 4, &head)? {
+                None => Ok(false),
+                Some(members) => Ok(members.len() == count),
+            }
+        }
+        _ => Ok(false),
+    }
+}
+
+// What S accepts has its shape, and so has what the value above denotes under it; a shape that is known stays with more steps.
+#[test]
+fn shapes_and_places(rt: HostRuntime) {
+    let alloc = rt.alloc();
+    assert_eq!(rt;
+        first_wrong(&[
+            shaped(
+                alloc,
+                8,
+                "S",
+                fields_of_one(alloc, "a", whole(7)),
+                Answer::Yes
+            ),
+            shaped(
+                alloc,
+                8,
+                "S",
+                fields_of_one(alloc, "a", whole(100)),
+                Answer::Yes
+            ),
+            shaped(
+                alloc,
+                0,
+                "S",
+                fields_of_one(alloc, "a", truth(true)),
+                Answer::Unknown
+            ),
+            shaped(
+                alloc,
+                8,
+                "S",
+                fields_of_one(alloc, "a", truth(true)),
+                Answer::No
+            ),
+            shaped(
+                alloc,
+                9,
+                "S",
+                fields_of_one(alloc, "a", truth(true)),
+                Answer::No
+            ),
+            members_of_s(alloc, 4),
+            at_a_place(alloc, whole(7), Answer::Yes),
+            at_a_place(alloc, whole(3), Answer::No),
+            above_five_holds(alloc, 9, Answer::Yes),
+            above_five_holds(alloc, 10, Answer::No),
+        ]),
+        None
+    );
+}
