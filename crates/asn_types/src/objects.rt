@@ -213,7 +213,7 @@ fn set_of(
     first: List<ObjectSetValue>,
     more: List<ObjectSetValue>,
 ) -> Mem<ObjectSet>
-    ensures { IfOk result (λ set. object_set_with (option_copied mark) (Some first) (Some more) ≡ Some set) }
+    ensures { IfOk result (λ set. object_set_with (option_copied mark.entry) (Some first) (Some more) ≡ Some set) }
 {
     let extensible = match mark {
         Some(_) => Some(first.len()),
