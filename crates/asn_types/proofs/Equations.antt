@@ -19,16 +19,18 @@ use Rattle.asn_types.specs.Choices.{one_option, option_with, options_before, opt
 use Rattle.asn_types.specs.Forms.{constraints_behind, parts_of}
 use Rattle.asn_types.specs.Members.{as_member, body_with, component_before, components_made, group_with, member_with, taken_over}
 use Rattle.asn_types.specs.Read.{Read, nodes}
-use Rattle.asn_types.specs.Reading.{body_of, component_of, components_of, element_of, form_of, group_of, member_of, option_of, options_of, read_step, type_of}
+use Rattle.asn_types.specs.Reading.{body_of, component_of, components_of, element_of, form_of, group_of, member_of, option_of, options_of, read, read_step, type_of}
 use Rattle.asn_types.specs.Types.{first_form, form_with, parts_made}
 
 module _ (text : List ℕ) where
   pub nodes_paired : (ns : List Node) → nodes (paired Read (read_step text) ns) ≡ ns
+  unfolding read
   nodes_paired [] = refl
   nodes_paired (n ∷ ns) = ap (λ ms. n ∷ ms) (nodes_paired ns)
 
   -- a node opened and closed again
   pub closed_again : (n : Node) → closed (opened Read (read_step text) n) ≡ n
+  unfolding read
   closed_again n =
       let x = out-Node n in
       ap (λ ns. roll-Node (record { rule = x.rule; start = x.start; end = x.end; children = ns })) (nodes_paired x.children) ∙ roll-out-Node n
@@ -38,16 +40,20 @@ module _ (text : List ℕ) where
   kids n = paired Read (read_step text) (out-Node n).children
 
   first_paired : (ns : List Node) → first_form (paired Read (read_step text) ns) ≡ the (first_among ns) (form_of text)
+  unfolding read
   first_paired [] = refl
   first_paired (n ∷ ns) = refl
 
   constraints_paired : (n : Node) → made (kids n) CONSTRAINT (Some []) (λ c. c.constraints) ≡ constraints_behind text n
+  unfolding read
   constraints_paired n = made_paired Read (read_step text) (out-Node n).children CONSTRAINT (Some []) (λ c. c.constraints)
 
   type_paired : (n : Node) → made (kids n) ASN1_TYPE None (λ c. c.type) ≡ the (child_of n ASN1_TYPE) (type_of text)
+  unfolding read
   type_paired n = made_paired Read (read_step text) (out-Node n).children ASN1_TYPE None (λ c. c.type)
 
   parts_paired : (n : Node) → parts_made (kids n) ≡ parts_of text n
+  unfolding read
   parts_paired n =
       let ns = (out-Node n).children in
       let constraints = constraints_paired n in
@@ -58,28 +64,34 @@ module _ (text : List ℕ) where
       λ i. record { constraints = constraints i; element = element i; body = body i; options = options i; additions = additions i }
 
   components_paired : (ns : List Node) → components_made (paired Read (read_step text) ns) ≡ components_in text ns
+  unfolding read
   components_paired [] = refl
   components_paired (n ∷ ns) =
       ap (λ those. if nat_eq (out-Node n).rule SEQUENCE_COMPONENT then component_before (component_of text n) those else if nat_eq (out-Node n).rule EXTENSION_GROUP then component_before (as_member (group_of text n)) those else those) (components_paired ns)
 
   options_paired : (ns : List Node) → options_made (paired Read (read_step text) ns) ≡ options_in text ns
+  unfolding read
   options_paired [] = refl
   options_paired (n ∷ ns) =
       ap (λ those. if nat_eq (out-Node n).rule CHOICE_OPTION then options_before (one_option (option_of text n)) those else if nat_eq (out-Node n).rule OPTION_GROUP then options_before (options_of text n) those else those) (options_paired ns)
 
   pub form_is : (n : Node) → form_of text n ≡ form_with text n (parts_of text n)
+  unfolding read
   form_is n =
       ap (λ t. t.form) (para_out Read (read_step text) n)
       ∙ ap (λ m. form_with text m (parts_made (kids n))) (closed_again n)
       ∙ ap (form_with text n) (parts_paired n)
 
   pub type_is : (n : Node) → type_of text n ≡ the (first_child_of n) (form_of text)
+  unfolding read
   type_is n = ap (λ t. t.type) (para_out Read (read_step text) n) ∙ first_paired (out-Node n).children
 
   pub element_is : (n : Node) → element_of text n ≡ the (child_of n ASN1_TYPE) (type_of text)
+  unfolding read
   element_is n = ap (λ t. t.element) (para_out Read (read_step text) n) ∙ type_paired n
 
   pub body_is : (n : Node) → body_of text n ≡ body_with n (the (child_of n COMPONENT_LIST) (components_of text)) (the (child_of n ADDITION_LIST) (components_of text))
+  unfolding read
   body_is n =
       let ns = (out-Node n).children in
       let root = made_paired Read (read_step text) ns COMPONENT_LIST None (λ c. c.components) in
@@ -89,21 +101,25 @@ module _ (text : List ℕ) where
       ∙ (λ i. body_with n (root i) (further i))
 
   pub components_is : (n : Node) → components_of text n ≡ components_in text (out-Node n).children
+  unfolding read
   components_is n = ap (λ t. t.components) (para_out Read (read_step text) n) ∙ components_paired (out-Node n).children
 
   pub component_is : (n : Node) → component_of text n ≡ at_child (child_of n SEQUENCE_OR_SET_MEMBER) (taken_over text n) (λ m. as_member (member_of text m))
+  unfolding read
   component_is n =
       ap (λ t. t.component) (para_out Read (read_step text) n)
       ∙ ap (λ m. made (kids n) SEQUENCE_OR_SET_MEMBER (taken_over text m) (λ c. as_member c.member)) (closed_again n)
       ∙ made_paired Read (read_step text) (out-Node n).children SEQUENCE_OR_SET_MEMBER (taken_over text n) (λ c. as_member c.member)
 
   pub group_is : (n : Node) → group_of text n ≡ group_with text n (components_of text n)
+  unfolding read
   group_is n =
       ap (λ t. t.group) (para_out Read (read_step text) n)
       ∙ ap (λ m. group_with text m (components_made (kids n))) (closed_again n)
       ∙ ap (group_with text n) (components_paired (out-Node n).children ∙ sym (components_is n))
 
   pub member_is : (n : Node) → member_of text n ≡ member_with text n (the (child_of n ASN1_TYPE) (type_of text)) (constraints_behind text n)
+  unfolding read
   member_is n =
       let type = type_paired n in
       let constraints = constraints_paired n in
@@ -112,6 +128,7 @@ module _ (text : List ℕ) where
       ∙ (λ i. member_with text n (type i) (constraints i))
 
   pub option_is : (n : Node) → option_of text n ≡ option_with text n (the (child_of n ASN1_TYPE) (type_of text)) (constraints_behind text n)
+  unfolding read
   option_is n =
       let type = type_paired n in
       let constraints = constraints_paired n in
@@ -120,6 +137,7 @@ module _ (text : List ℕ) where
       ∙ (λ i. option_with text n (type i) (constraints i))
 
   pub options_is : (n : Node) → options_of text n ≡ options_in text (out-Node n).children
+  unfolding read
   options_is n = ap (λ t. t.options) (para_out Read (read_step text) n) ∙ options_paired (out-Node n).children
 
 -- What a loop over nodes has made, and what is to be made of the nodes behind its place.

@@ -26,6 +26,7 @@ use Rattle.asn_types.proofs.ViewsConstraints.{body_has_no_body}
 
 module _ (text : List ℕ) where
   nodes_paired : (ns : List Node) → nodes (paired Read (read_step text) ns) ≡ ns
+  unfolding read
   nodes_paired [] = refl
   nodes_paired (n ∷ ns) = ap (λ ms. n ∷ ms) (nodes_paired ns)
 
@@ -37,16 +38,19 @@ module _ (text : List ℕ) where
   again n = closed (opened Read (read_step text) n)
 
   same_again : (n : Node) → again n ≡ n
+  unfolding read
   same_again n =
       let x = out-Node n in
       ap (λ ns. roll-Node (record { rule = x.rule; start = x.start; end = x.end; children = ns })) (nodes_paired x.children) ∙ roll-out-Node n
 
   got : {B : Type 0} (n : Node) (r : ℕ) (z : B) (f : Read → B) → made (kids n) r z f ≡ at_child (child_of n r) z (λ c. f (read text c))
+  unfolding read
   got n r z f = made_paired Read (read_step text) (out-Node n).children r z f
 
   -- ---- constraints
 
   pub constraints_is : (n : Node) → constraints_of text n ≡ all_some (at_children (out-Node n).children CONSTRAINT_ITEM (constraint_of text))
+  unfolding read
   constraints_is n = ap (λ t. t.constraints) (para_out Read (read_step text) n) ∙ ap all_some (made_all_paired Read (read_step text) (out-Node n).children CONSTRAINT_ITEM (λ c. c.constraint))
 
   abbrev pub ConstraintIs : Node → Type 0
@@ -55,6 +59,7 @@ module _ (text : List ℕ) where
       ≡ at_child (child_of n SINGLE_CONSTRAINT) (at_child (child_of n SIZE_CONSTRAINT) (the (child_of n PARAMETERS) (λ c. arguments_with (parameters_of text c))) (λ c. element_with (element_form_of text c))) (single_of text)
 
   pub constraint_is : (n : Node) → ConstraintIs n
+  unfolding read
   constraint_is n =
       ap (λ t. t.constraint) (para_out Read (read_step text) n)
       ∙ got n SINGLE_CONSTRAINT (made (kids n) SIZE_CONSTRAINT (made (kids n) PARAMETERS None (λ c. arguments_with c.parameters)) (λ c. element_with c.element_form)) (λ c. c.single)
@@ -67,6 +72,7 @@ module _ (text : List ℕ) where
       ≡ at_child (child_of n CONTENT_CONSTRAINT) (at_child (child_of n TABLE_CONSTRAINT) (the (child_of n ELEMENT_SET) (λ c. subtype_with (set_of text c))) (table_of text)) (λ c. contents_with (content_of text c))
 
   pub single_is : (n : Node) → SingleIs n
+  unfolding read
   single_is n =
       ap (λ t. t.single) (para_out Read (read_step text) n)
       ∙ got n CONTENT_CONSTRAINT (made (kids n) TABLE_CONSTRAINT (made (kids n) ELEMENT_SET None (λ c. subtype_with c.set)) (λ c. c.table)) (λ c. contents_with c.content)
@@ -79,6 +85,7 @@ module _ (text : List ℕ) where
       ≡ at_child (child_of n CONTENT_BODY) (at_child (child_of n ASN1_TYPE) (encoded_with text (child_of n ASN1_VALUE)) (λ c. containing_with text (child_of n ASN1_VALUE) (type_of text c))) (content_of text)
 
   content_at : (n : Node) → ContentAt n
+  unfolding read
   content_at n =
       ap (λ t. t.content) (para_out Read (read_step text) n)
       ∙ ap (λ ms. made (kids n) CONTENT_BODY (made (kids n) ASN1_TYPE (encoded_with text (child_among ms ASN1_VALUE)) (λ c. containing_with text (child_among ms ASN1_VALUE) c.type)) (λ c. c.content)) (nodes_paired (out-Node n).children)
@@ -100,6 +107,7 @@ module _ (text : List ℕ) where
   body_is n is = content_at n ∙ ap (λ o. at_child o (told n) (content_of text)) (body_has_no_body text n is)
 
   pub table_is : (n : Node) → table_of text n ≡ table_with text (child_of n RELATIONS) (the (child_of n OBJECT_SET) (object_set_of text))
+  unfolding read
   table_is n =
       ap (λ t. t.table) (para_out Read (read_step text) n)
       ∙ ap (λ ms. table_with text (child_among ms RELATIONS) (made (kids n) OBJECT_SET None (λ c. c.object_set))) (nodes_paired (out-Node n).children)
@@ -108,18 +116,21 @@ module _ (text : List ℕ) where
   -- ---- sets of values
 
   pub set_is : (n : Node) → set_of text n ≡ set_with n (the (child_of n SET_REST) (rest_of text))
+  unfolding read
   set_is n =
       ap (λ t. t.set) (para_out Read (read_step text) n)
       ∙ ap (λ m. set_with m (made (kids n) SET_REST None (λ c. c.rest))) (same_again n)
       ∙ ap (set_with n) (got n SET_REST None (λ c. c.rest))
 
   pub rest_is : (n : Node) → rest_of text n ≡ at_child (child_of n SET_OPERATION) (the (child_of n SUBTYPE_ELEMENT) (λ c. one_with (subtype_of text c))) (operation_of text)
+  unfolding read
   rest_is n =
       ap (λ t. t.rest) (para_out Read (read_step text) n)
       ∙ got n SET_OPERATION (made (kids n) SUBTYPE_ELEMENT None (λ c. one_with c.subtype)) (λ c. c.operation)
       ∙ ap (λ z. at_child (child_of n SET_OPERATION) z (operation_of text)) (got n SUBTYPE_ELEMENT None (λ c. one_with c.subtype))
 
   pub operation_is : (n : Node) → operation_of text n ≡ operation_with (child_of n SET_OPERATOR) (the (child_of n SUBTYPE_ELEMENT) (subtype_of text)) (the (child_of n SET_REST) (rest_of text))
+  unfolding read
   operation_is n =
       ap (λ t. t.operation) (para_out Read (read_step text) n)
       ∙ ap (λ ms. operation_with (child_among ms SET_OPERATOR) (made (kids n) SUBTYPE_ELEMENT None (λ c. c.subtype)) (made (kids n) SET_REST None (λ c. c.rest))) (nodes_paired (out-Node n).children)
@@ -129,10 +140,12 @@ module _ (text : List ℕ) where
   -- ---- elements
 
   first_paired : (ns : List Node) → first_element (paired Read (read_step text) ns) ≡ the (first_among ns) (element_form_of text)
+  unfolding read
   first_paired [] = refl
   first_paired (n ∷ ns) = refl
 
   pub subtype_is : (n : Node) → subtype_of text n ≡ the (first_child_of n) (element_form_of text)
+  unfolding read
   subtype_is n = ap (λ t. t.subtype) (para_out Read (read_step text) n) ∙ first_paired (out-Node n).children
 
   abbrev chosen : ℕ → Node → Option (List Constraint) → Option (List (ConstrainedComponentOver Constraint)) → Option (ElementSetOver ElementOrSetOperation) → Option ElementOrSetOperation → Option ASN1Type → Option SubtypeElement
@@ -155,6 +168,7 @@ module _ (text : List ℕ) where
       else leaf_of text n)
 
   pub element_form_is : (n : Node) → ElementIs n
+  unfolding read
   element_form_is n =
       let r = (out-Node n).rule in
       let constraints = the (child_of n CONSTRAINT) (constraints_of text) in
@@ -170,9 +184,11 @@ module _ (text : List ℕ) where
       ∙ ap (chosen r n constraints listed set rest) (got n ASN1_TYPE None (λ c. c.type))
 
   pub listed_is : (n : Node) → listed_of text n ≡ all_some (at_children (out-Node n).children SUBSET_MEMBER (listed_one_of text))
+  unfolding read
   listed_is n = ap (λ t. t.listed) (para_out Read (read_step text) n) ∙ ap all_some (made_all_paired Read (read_step text) (out-Node n).children SUBSET_MEMBER (λ c. c.listed_one))
 
   pub listed_one_is : (n : Node) → listed_one_of text n ≡ listed_one_with text n (at_child (child_of n CONSTRAINT) (Some []) (constraints_of text))
+  unfolding read
   listed_one_is n =
       ap (λ t. t.listed_one) (para_out Read (read_step text) n)
       ∙ ap (λ m. listed_one_with text m (made (kids n) CONSTRAINT (Some []) (λ c. c.constraints))) (same_again n)
@@ -181,6 +197,7 @@ module _ (text : List ℕ) where
   -- ---- arguments
 
   pub parameters_is : (n : Node) → parameters_of text n ≡ all_some (at_children (out-Node n).children PARAMETER (parameter_of text))
+  unfolding read
   parameters_is n = ap (λ t. t.parameters) (para_out Read (read_step text) n) ∙ ap all_some (made_all_paired Read (read_step text) (out-Node n).children PARAMETER (λ c. c.parameter))
 
   abbrev pub ParameterIs : Node → Type 0
@@ -189,6 +206,7 @@ module _ (text : List ℕ) where
       ≡ at_child (child_of n ASN1_VALUE) (at_child (child_of n ASN1_TYPE) (at_child (child_of n OBJECT_SET) (the (child_of n INFORMATION_OBJECT) (λ c. object_parameter_with (object_of text c))) (λ c. set_parameter_with (object_set_of text c))) (λ c. type_parameter_with (type_of text c))) (value_parameter_of text)
 
   pub parameter_is : (n : Node) → ParameterIs n
+  unfolding read
   parameter_is n =
       let objects = made (kids n) INFORMATION_OBJECT None (λ c. object_parameter_with c.object) in
       let sets = made (kids n) OBJECT_SET objects (λ c. set_parameter_with c.object_set) in

@@ -65,7 +65,7 @@ read_step text x =
       object_item = object_item_step text x;
     }
 
-abbrev pub read : List ℕ → Node → Read
+unfoldable pub read : List ℕ → Node → Read
 read text = para Read (read_step text)
 
 -- types: a node of one of the forms of types, of a type, of the element of a list
