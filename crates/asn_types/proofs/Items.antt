@@ -1,5 +1,5 @@
 -- The items of an enumeration with their names and comments have the numbers that its nodes tell, so no number passes 128 bits.
-use Rattle.std.proofs.Common.{◌≡◌, ℕ, ℤ, List, [], ◌∷◌, Bool, true, false, Option, Some, None, refl, sym, ap, ◌∙◌}
+use Rattle.std.proofs.Common.{◌≡◌, ℕ, ℤ, List, [], ◌∷◌, Bool, true, false, Option, Some, None, refl, sym, subst, ap, ◌∙◌}
 use Rattle.std.specs.Prelude.{cond, nat_eq}
 use Rattle.asn_rules.specs.Children.{Is}
 use Rattle.asn_rules.specs.Nodes.{at_children, child_of, nth_among, nth_child_of, the}
@@ -8,13 +8,14 @@ use Rattle.asn_rules.specs.declared.names.TheConstants.{ENUMERAL, ENUMERAL_LIST,
 use Rattle.asn_rules.specs.declared.node.Node.{Node}
 use Rattle.asn_rules.specs.declared.node.Node.TheViews.{out-Node}
 use Rattle.asn_guards.specs.Enumerations.{added_items, root_items}
-use Rattle.asn_numbers.specs.Enumeration.{NumbersPass}
+use Rattle.asn_numbers.specs.Enumeration.{AreNumbers, NumbersPass}
 use Rattle.asn_literals.proofs.EnumeratedItems.{items_are, numbers_fit_here}
 use Rattle.asn_literals.specs.Enumerals as enumerals
 use Rattle.asn_literals.specs.Parts.{all_some, if_there, integer_of, name_of, number_of, of_some, taken}
 use Rattle.asn_pieces.specs.Enumerations.{item_comment_of, item_of, items_in, items_of}
 use Rattle.asn_pieces.specs.declared.enumerations.WrittenItem.{WrittenItem}
-use Rattle.asn_types.specs.Enumerations.{numbers_written}
+use Rattle.asn_types.specs.Enumerations.{numbers_of, numbers_written}
+use Rattle.asn_types.proofs.Numbers.{numbers_are}
 
 there : (o : Option Node) (f : Node → Option ℤ) (number : Option ℤ) → if_there o f ≡ Some number → number ≡ the o f
 there None f number e = cc
@@ -87,3 +88,20 @@ fit_by text n a b root additions x y is told first second of_root of_additions p
 pub numbers_fit : (text : List ℕ) (n a b : Node) (root additions : List WrittenItem) → Is whole_rules text ENUMERATED n → nth_child_of n ENUMERAL_LIST 0 ≡ Some a → nth_child_of n ENUMERAL_LIST 1 ≡ Some b → items_of text a ≡ Some root → items_of text b ≡ Some additions → NumbersPass (numbers_written root) (numbers_written additions) → ⊥
 numbers_fit text n a b root additions is first second of_root of_additions pass =
     fit_by text n a b root additions (root_items (taken text n)) (added_items (taken text n)) is (items_are text n is) first second of_root of_additions pass
+
+-- a child that is asked for, and what is read of it
+found_by : {B : Type 0} (o : Option Node) (f : Node → Option B) (y : B) → the o f ≡ Some y → (a : Node) × (o ≡ Some a) × (f a ≡ Some y)
+found_by None f y e = absurd cc
+found_by (Some a) f y e = (a, refl, e)
+
+-- The same of numbers that were copied, as the call that gives numbers is asked of them.
+pub numbers_never_pass : (text : List ℕ) (n : Node) (root additions : List WrittenItem) (x y : List (Option ℤ)) → Is whole_rules text ENUMERATED n → the (nth_child_of n ENUMERAL_LIST 0) (items_of text) ≡ Some root → the (nth_child_of n ENUMERAL_LIST 1) (items_of text) ≡ Some additions → x ≡ numbers_written root → y ≡ numbers_written additions → NumbersPass x y → ⊥
+numbers_never_pass text n root additions x y is of_root of_additions e f pass =
+    let first = found_by (nth_child_of n ENUMERAL_LIST 0) (items_of text) root of_root in
+    let second = found_by (nth_child_of n ENUMERAL_LIST 1) (items_of text) additions of_additions in
+    numbers_fit text n first.0 second.0 root additions is first.1 second.1 first.2 second.2 (subst (λ z. NumbersPass (numbers_written root) z) f (subst (λ z. NumbersPass z y) e pass))
+
+-- So the numbers that it gives are those of the items.
+pub numbers_come : (text : List ℕ) (n : Node) (root additions : List WrittenItem) (x y : List (Option ℤ)) (ns : List ℤ) → Is whole_rules text ENUMERATED n → the (nth_child_of n ENUMERAL_LIST 0) (items_of text) ≡ Some root → the (nth_child_of n ENUMERAL_LIST 1) (items_of text) ≡ Some additions → x ≡ numbers_written root → y ≡ numbers_written additions → AreNumbers x y ns → numbers_of (numbers_written root) (numbers_written additions) ≡ Some ns
+numbers_come text n root additions x y ns is of_root of_additions e f a =
+    ap (λ z. numbers_of z (numbers_written additions)) (sym e) ∙ ap (numbers_of x) (sym f) ∙ numbers_are x y ns a (numbers_never_pass text n root additions x y is of_root of_additions e f)

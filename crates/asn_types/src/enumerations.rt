@@ -2,10 +2,11 @@
 
 ghost use Rattle.asn_rules.specs.Children.{Is};
 ghost use Rattle.asn_rules.specs.Whole.{whole_rules};
-ghost use Rattle.asn_rules.specs.declared.names.TheConstants.{ENUMERATED};
+ghost use Rattle.asn_rules.specs.Nodes.{nth_child_of, the};
+ghost use Rattle.asn_rules.specs.declared.names.TheConstants.{ENUMERAL_LIST, ENUMERATED};
+ghost use Rattle.asn_pieces.specs.Enumerations.{items_of};
 ghost use Rattle.asn_types.specs.Enumerations.{an_enumerated, numbered, numbers_of, numbers_written};
 ghost use Rattle.asn_types.specs.Forms.{enumerated_type_of};
-ghost use Rattle.asn_numbers.specs.Enumeration.{NumbersPass};
 ghost use Rattle.std.specs.Option.{option_map};
 ghost use Rattle.std.specs.Prelude.{◌≡◌, IfOk, Some};
 
@@ -85,13 +86,23 @@ fn enumerated(
     }))
 }
 
-/// The numbers of all items (X.680 20.4 to 20.7), none of which passes 128 bits.
-#[tactic(auto, using(crate::proofs::Numbers::numbers_are))]
-fn numbers(alloc: Global, root: &[Option<i128>], additions: &[Option<i128>]) -> Mem<List<i128>>
-    requires { NumbersPass root.now additions.now → ⊥ }
-    ensures { IfOk result (λ numbers. numbers_of root.now additions.now ≡ Some numbers) }
+/// The numbers of all items of an enumeration (X.680 20.4 to 20.7), none of which passes 128 bits, as the grammar asks.
+#[tactic(auto, using(crate::proofs::Items::numbers_never_pass, crate::proofs::Items::numbers_come))]
+fn numbers(
+    alloc: Global,
+    text: &[u8],
+    node: &Node,
+    root: &List<WrittenItem>,
+    additions: &List<WrittenItem>,
+) -> Mem<List<i128>>
+    requires is { Is whole_rules text.now ENUMERATED node.now }
+    requires root { the (nth_child_of node.now ENUMERAL_LIST 0) (items_of text.now) ≡ Some root.now }
+    requires additions { the (nth_child_of node.now ENUMERAL_LIST 1) (items_of text.now) ≡ Some additions.now }
+    ensures { IfOk result (λ numbers. numbers_of (numbers_written root.now) (numbers_written additions.now) ≡ Some numbers) }
 {
-    match enumerate(alloc, root, additions)? {
+    let of_root = numbers_written(alloc, root.as_slice())?;
+    let of_additions = numbers_written(alloc, additions.as_slice())?;
+    match enumerate(alloc, of_root.as_slice(), of_additions.as_slice())? {
         Some(numbers) => Ok(numbers),
         None => unreachable!(),
     }
@@ -99,16 +110,14 @@ fn numbers(alloc: Global, root: &[Option<i128>], additions: &[Option<i128>]) -> 
 
 /// ENUMERATED: its items with their numbers and comments; it is extensible behind those before the extension marker
 /// (X.680 20.1).
-#[tactic(auto, using(crate::proofs::ViewsTypes::enumerated_has_root, crate::proofs::ViewsTypes::enumerated_has_additions, crate::proofs::Items::numbers_fit))]
+#[tactic(auto, using(crate::proofs::ViewsTypes::enumerated_has_root, crate::proofs::ViewsTypes::enumerated_has_additions))]
 pub(crate) fn read_enumerated(alloc: Global, text: &[u8], node: &Node) -> Mem<ASN1Type>
     requires { Is whole_rules text.now ENUMERATED node.now }
     ensures { IfOk result (λ ty. enumerated_type_of text.now node.now ≡ Some ty) }
 {
     let root = read_items(alloc, text, node.the_nth_child(names::ENUMERAL_LIST, 0))?;
     let additions = read_items(alloc, text, node.the_nth_child(names::ENUMERAL_LIST, 1))?;
-    let of_root = numbers_written(alloc, root.as_slice())?;
-    let of_additions = numbers_written(alloc, additions.as_slice())?;
-    let numbers = numbers(alloc, of_root.as_slice(), of_additions.as_slice())?;
+    let numbers = numbers(alloc, text, node, &root, &additions)?;
     let marker = read_extension(node);
     Ok(enumerated(alloc, root, additions, marker, &numbers)?)
 }

@@ -50,19 +50,26 @@ pub(crate) fn read_rest(alloc: Global, text: &[u8], node: &Node) -> Mem<ElementO
 
 /// An element, an operator, and what stands behind it.
 fn joined(
-    alloc: Global,
     base: SubtypeElement,
     operator: SetOperator,
-    rest: ElementOrSetOperation,
-) -> Mem<ElementOrSetOperation>
-    ensures { IfOk result (λ operation. operation ≡ an_operation base operator rest) }
+    operant: Box<ElementOrSetOperation>,
+) -> ElementOrSetOperation
+    ensures { result ≡ an_operation base operator operant }
 {
-    let operant = Box::new(alloc, rest)?;
-    Ok(ElementOrSetOperation::SetOperation(SetOperation {
+    ElementOrSetOperation::SetOperation(SetOperation {
         base,
         operator,
         operant,
-    }))
+    })
+}
+
+/// What is left of a set, on the heap.
+#[cycle(reading)]
+fn read_boxed_rest(alloc: Global, text: &[u8], node: &Node) -> Mem<Box<ElementOrSetOperation>>
+    requires { Is whole_rules text.now SET_REST node.now }
+    ensures { IfOk result (λ rest. rest_of text.now node.now ≡ Some rest) }
+{
+    Ok(Box::new(alloc, read_rest(alloc, text, node)?)?)
 }
 
 /// An element, an operator, and what is left of the set behind it.
@@ -77,8 +84,10 @@ fn read_behind_operator(
     requires { Is whole_rules text.now SET_REST node.now }
     ensures { IfOk result (λ operation. of_some (rest_of text.now node.now) (λ rest. Some (an_operation base operator rest)) ≡ Some operation) }
 {
-    let rest = read_rest(alloc, text, node)?;
-    Ok(joined(alloc, base, operator, rest)?)
+    match read_boxed_rest(alloc, text, node) {
+        Ok(operant) => Ok(joined(base, operator, operant)),
+        Err(fault) => Err(fault),
+    }
 }
 
 /// An element, an operator, and what is left behind it; operators group to the right (X.680 50.1).
