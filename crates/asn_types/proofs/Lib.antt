@@ -3,6 +3,7 @@ pub mod AskedConstraints
 pub mod AskedObjects
 pub mod Equations
 pub mod Items
+pub mod LeftOver
 pub mod Numbered
 pub mod Numbers
 pub mod ViewsTypes

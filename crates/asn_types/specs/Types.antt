@@ -27,14 +27,22 @@ use Rattle.asn_types.specs.Choices.{choice_with}
 use Rattle.asn_types.specs.Enumerations.{enumerated_with}
 use Rattle.asn_types.specs.Read.{Read}
 
+-- the rules of the forms of types that hold nothing of types but constraints
+abbrev pub is_constrained : ℕ → Bool
+is_constrained r =
+    nat_eq r OBJECT_IDENTIFIER || nat_eq r UTC_TIME || nat_eq r INSTANCE_OF || nat_eq r GENERALIZED_TIME || nat_eq r REAL || nat_eq r INTEGER
+    || nat_eq r BOOLEAN || nat_eq r BIT_STRING || nat_eq r TIME || nat_eq r OCTET_STRING || nat_eq r CHARACTER_STRING
+    || nat_eq r INFORMATION_OBJECT_FIELD_REFERENCE || nat_eq r ELSEWHERE_DECLARED_TYPE
+
+-- those of the others
+abbrev pub is_other : ℕ → Bool
+is_other r =
+    nat_eq r NULL || nat_eq r SELECTION_TYPE_CHOICE || nat_eq r SEQUENCE_OF || nat_eq r SEQUENCE || nat_eq r SET_OF || nat_eq r SET
+    || nat_eq r EXTERNAL || nat_eq r EMBEDDED_PDV || nat_eq r CHOICE || nat_eq r ENUMERATED
+
 -- the rules of the forms of types
 abbrev pub is_type : ℕ → Bool
-is_type r =
-    nat_eq r NULL || nat_eq r SELECTION_TYPE_CHOICE || nat_eq r OBJECT_IDENTIFIER || nat_eq r SEQUENCE_OF || nat_eq r SEQUENCE
-    || nat_eq r SET_OF || nat_eq r SET || nat_eq r UTC_TIME || nat_eq r EXTERNAL || nat_eq r EMBEDDED_PDV || nat_eq r INSTANCE_OF
-    || nat_eq r GENERALIZED_TIME || nat_eq r REAL || nat_eq r CHOICE || nat_eq r INTEGER || nat_eq r ENUMERATED || nat_eq r BOOLEAN
-    || nat_eq r BIT_STRING || nat_eq r TIME || nat_eq r OCTET_STRING || nat_eq r CHARACTER_STRING
-    || nat_eq r INFORMATION_OBJECT_FIELD_REFERENCE || nat_eq r ELSEWHERE_DECLARED_TYPE
+is_type r = is_other r || is_constrained r
 
 -- A node of one of them.
 pub record IsType (text : List ℕ) (n : Node) : Type 0 where
@@ -158,34 +166,45 @@ pub record Parts : Type 0 where
   pub options : Option (List ChoiceOption)
   pub additions : Option (List ChoiceOption)
 
+-- A node of a form that holds nothing of types but constraints.
+pub record IsConstrained (text : List ℕ) (n : Node) : Type 0 where
+  pub stands_by : StandsBy whole_rules text n
+  pub is_one : is_constrained (out-Node n).rule ≡ true
+
+-- the type that a node of one of these is, with these constraints
+abbrev pub constrained_form : List ℕ → Node → Option (List Constraint) → Option ASN1Type
+constrained_form text n constraints =
+    let r = (out-Node n).rule in
+    if nat_eq r OBJECT_IDENTIFIER then object_identifier_with constraints
+    else if nat_eq r UTC_TIME then utc_time_with constraints
+    else if nat_eq r INSTANCE_OF then instance_of_with text n constraints
+    else if nat_eq r GENERALIZED_TIME then generalized_time_with constraints
+    else if nat_eq r REAL then real_with constraints
+    else if nat_eq r INTEGER then integer_with text n constraints
+    else if nat_eq r BOOLEAN then boolean_with constraints
+    else if nat_eq r BIT_STRING then bit_string_with text n constraints
+    else if nat_eq r TIME then time_with constraints
+    else if nat_eq r OCTET_STRING then octet_string_with constraints
+    else if nat_eq r CHARACTER_STRING then character_string_with n constraints
+    else if nat_eq r INFORMATION_OBJECT_FIELD_REFERENCE then field_type_with text n constraints
+    else if nat_eq r ELSEWHERE_DECLARED_TYPE then elsewhere_with text n constraints
+    else None
+
 -- the type that a node of one of the forms is, by what its children are
 abbrev pub form_with : List ℕ → Node → Parts → Option ASN1Type
 form_with text n parts =
     let r = (out-Node n).rule in
     if nat_eq r NULL then Some ty.Null
     else if nat_eq r SELECTION_TYPE_CHOICE then selection_with text n
-    else if nat_eq r OBJECT_IDENTIFIER then object_identifier_with parts.constraints
     else if nat_eq r SEQUENCE_OF then sequence_of_with parts.element parts.constraints
     else if nat_eq r SEQUENCE then sequence_with parts.body parts.constraints
     else if nat_eq r SET_OF then set_of_with parts.element parts.constraints
     else if nat_eq r SET then set_with parts.body parts.constraints
-    else if nat_eq r UTC_TIME then utc_time_with parts.constraints
     else if nat_eq r EXTERNAL then Some ty.External
     else if nat_eq r EMBEDDED_PDV then Some ty.EmbeddedPdv
-    else if nat_eq r INSTANCE_OF then instance_of_with text n parts.constraints
-    else if nat_eq r GENERALIZED_TIME then generalized_time_with parts.constraints
-    else if nat_eq r REAL then real_with parts.constraints
     else if nat_eq r CHOICE then choice_with n parts.options parts.additions
-    else if nat_eq r INTEGER then integer_with text n parts.constraints
     else if nat_eq r ENUMERATED then enumerated_with text n
-    else if nat_eq r BOOLEAN then boolean_with parts.constraints
-    else if nat_eq r BIT_STRING then bit_string_with text n parts.constraints
-    else if nat_eq r TIME then time_with parts.constraints
-    else if nat_eq r OCTET_STRING then octet_string_with parts.constraints
-    else if nat_eq r CHARACTER_STRING then character_string_with n parts.constraints
-    else if nat_eq r INFORMATION_OBJECT_FIELD_REFERENCE then field_type_with text n parts.constraints
-    else if nat_eq r ELSEWHERE_DECLARED_TYPE then elsewhere_with text n parts.constraints
-    else None
+    else constrained_form text n parts.constraints
 
 -- the constraints behind a type (X.680 49.6): none where none stand
 abbrev pub constraints_made : List (Node × Read) → Option (List Constraint)

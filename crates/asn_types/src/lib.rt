@@ -9,6 +9,7 @@
 mod arguments;
 mod choices;
 mod classes;
+mod constrained;
 mod constraints;
 mod dummies;
 mod elements;

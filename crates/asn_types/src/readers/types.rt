@@ -11,13 +11,15 @@ ghost use Rattle.asn_types.specs.Reading.{component_of, member_of, type_of};
 ghost use Rattle.std.specs.Prelude.{◌≡◌, codes, IfErr, IfOk, Some};
 
 use crate::choices::read_choice;
+use crate::constrained::{
+    read_bit_string, read_boolean, read_character_string, read_elsewhere, read_field_reference,
+    read_generalized_time, read_instance_of, read_integer, read_object_identifier,
+    read_octet_string, read_real, read_time, read_utc_time,
+};
 use crate::enumerations::read_enumerated;
 use crate::members::{read_component, read_default, read_member};
 use crate::types::{
-    read_bit_string, read_boolean, read_character_string, read_elsewhere, read_field_reference,
-    read_generalized_time, read_instance_of, read_integer, read_object_identifier,
-    read_octet_string, read_real, read_selection_type, read_sequence, read_sequence_of,
-    read_set_of, read_set_type, read_time, read_type, read_utc_time,
+    read_selection_type, read_sequence, read_sequence_of, read_set_of, read_set_type, read_type,
 };
 use asn_literals::read_node;
 use asn_rules::names;
