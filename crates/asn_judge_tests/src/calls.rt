@@ -1,7 +1,7 @@
 //! The calls that the judge makes: which whole numbers are left (X.680 51.4), what values denote (X.680 clause 17, 51.2), which
 //! trees have the shape of a type, and what is said at a place with constraints.
 
-use crate::constraints::{alone, free, joined, marked, one, only, range};
+use crate::constraints::{alone, free, joined, marked, one, only, range, subtype};
 use crate::definitions::types;
 use crate::pairs::{both, with};
 use crate::rows::first_wrong;
@@ -38,26 +38,32 @@ fn left(alloc: Global) -> Mem<Option<Numbers>> {
     numbers(alloc, &[], 8, &place, constraints.as_slice())
 }
 
-// the numbers from 5 on, narrowed by (MIN<..MAX), which is the range of the same ends
-fn above_five(alloc: Global, by_constraint: bool) -> Mem<Option<Numbers>> {
-    let mark = alone(alloc, marked(None, true, None, false));
-    let (ty, constraints) = both(integer_with(free(alloc)), mark)?;
+fn from_five() -> Option<Numbers> {
+    Some(Numbers::From {
+        left_out: false,
+        number: 5,
+    })
+}
+
+// the numbers from 5 on, narrowed by (MIN<..MAX)
+fn narrowed_from_five(alloc: Global) -> Mem<Option<Numbers>> {
+    let mark = subtype(one(marked(None, true, None, false)), false);
+    let (ty, mark) = both(integer_with(free(alloc)), mark)?;
     let head = Place {
         scope: Scope::Empty,
         ty: TypeForm::Written(&ty),
     };
-    let before = Some(Numbers::From {
-        left_out: false,
-        number: 5,
-    });
-    if by_constraint {
-        match constraints.get(0) {
-            None => return Ok(None),
-            Some(first) => {
-                return narrowed(alloc, &[], 8, &Scope::Empty, &head, &before, first);
-            }
-        }
-    }
+    narrowed(alloc, &[], 8, &Scope::Empty, &head, &from_five(), &mark)
+}
+
+// the range MIN<..MAX put on them
+fn range_from_five(alloc: Global) -> Mem<Option<Numbers>> {
+    let ty = integer_with(free(alloc))?;
+    let head = Place {
+        scope: Scope::Empty,
+        ty: TypeForm::Written(&ty),
+    };
+    let before = from_five();
     let parent = Parent::Values {
         head: &head,
         numbers: &before,
@@ -91,8 +97,8 @@ fn whole_numbers(rt: HostRuntime) {
     assert_eq!(rt;
         first_wrong(&[
             has(alloc, left(alloc), 7, true),
-            has(alloc, above_five(alloc, true), 5, false),
-            has(alloc, above_five(alloc, false), 5, false),
+            has(alloc, narrowed_from_five(alloc), 5, false),
+            has(alloc, range_from_five(alloc), 5, false),
             in_order(alloc, 3, Some(2)),
         ]),
         None
@@ -100,6 +106,29 @@ fn whole_numbers(rt: HostRuntime) {
 }
 
 // ---- what values denote
+
+fn denoted<'a>(
+    alloc: Global,
+    definitions: &'a [ToplevelDefinition],
+    value: &'a ASN1Value,
+    ty: &'a ASN1Type,
+) -> Mem<Denotation<Tree>> {
+    let place = Place {
+        scope: Scope::Empty,
+        ty: TypeForm::Written(ty),
+    };
+    let form = ValueForm::Written(value);
+    denotes(alloc, definitions, 12, &Scope::Empty, form, &place)
+}
+
+// Whether this is denoted: the tree, or nothing where the answer is no.
+fn is_denoted(found: Denotation<Tree>, tree: &Tree, answer: bool) -> bool {
+    match found {
+        Denotation::Denoted(found) => same_tree(&found, tree) == answer,
+        Denotation::Nothing => !answer,
+        Denotation::Unsure => false,
+    }
+}
 
 // Whether the value denotes this tree under the type.
 fn gives(
@@ -109,18 +138,9 @@ fn gives(
     tree: Mem<Tree>,
     answer: bool,
 ) -> Mem<bool> {
-    let (definitions, (value, (ty, tree))) = both(types(alloc), both(value, both(ty, tree)))?;
-    let place = Place {
-        scope: Scope::Empty,
-        ty: TypeForm::Written(&ty),
-    };
-    let form = ValueForm::Written(&value);
-    let slice = definitions.as_slice();
-    match denotes(alloc, slice, 12, &Scope::Empty, form, &place)? {
-        Denotation::Denoted(found) => Ok(same_tree(&found, &tree) == answer),
-        Denotation::Nothing => Ok(!answer),
-        Denotation::Unsure => Ok(false),
-    }
+    let (definitions, (value, ty)) = both(types(alloc), both(value, ty))?;
+    let found = denoted(alloc, definitions.as_slice(), &value, &ty)?;
+    Ok(is_denoted(found, &tree?, answer))
 }
 
 // { a 7 }, read as two arcs
