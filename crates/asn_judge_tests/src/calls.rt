@@ -1,22 +1,18 @@
-//! The calls that the judge makes: which whole numbers are left (X.680 51.4), what values denote (X.680 clause 17, 51.2), which
-//! trees have the shape of a type, and what is said at a place with constraints.
+//! The calls that the judge makes: which whole numbers are left (X.680 51.4), which trees have the shape of a type, and what
+//! is said at a place with constraints.
 
 use crate::constraints::{alone, free, joined, marked, one, only, range, subtype};
 use crate::definitions::types;
-use crate::pairs::{both, with};
+use crate::pairs::both;
 use crate::rows::first_wrong;
 use crate::trees::{fields_of_one, truth, whole};
-use crate::types::{boolean, integer_with, named, number_in};
-use asn_denotes::{Denotation, denotes, is_all};
-use asn_heads::{Place, Scope, TypeForm, ValueForm};
-use asn_judge::{accepts, holds, same_tree};
-use asn_memory::{List, Mem, Text};
+use crate::types::{integer_with, named, number_in};
+use asn_heads::{Place, Scope, TypeForm};
+use asn_judge::{accepts, holds};
+use asn_memory::Mem;
 use asn_ranges::{Numbers, Parent, chain, narrowed, numbers, range as range_of};
 use asn_shapes::{Answer, Tree, fits, members_of};
-use asn_tree::{
-    ASN1Type, ASN1Value, ObjectIdentifierArc, ObjectIdentifierValue, Real, RealValue, SetOperator,
-    ToplevelDefinition,
-};
+use asn_tree::{SetOperator, ToplevelDefinition};
 use std::alloc::Global;
 
 // ---- whole numbers
@@ -105,108 +101,6 @@ fn whole_numbers(rt: HostRuntime) {
     );
 }
 
-// ---- what values denote
-
-fn denoted<'a>(
-    alloc: Global,
-    definitions: &'a [ToplevelDefinition],
-    value: &'a ASN1Value,
-    ty: &'a ASN1Type,
-) -> Mem<Denotation<Tree>> {
-    let place = Place {
-        scope: Scope::Empty,
-        ty: TypeForm::Written(ty),
-    };
-    let form = ValueForm::Written(value);
-    denotes(alloc, definitions, 12, &Scope::Empty, form, &place)
-}
-
-// Whether this is denoted: the tree, or nothing where the answer is no.
-fn is_denoted(found: Denotation<Tree>, tree: &Tree, answer: bool) -> bool {
-    match found {
-        Denotation::Denoted(found) => same_tree(&found, tree) == answer,
-        Denotation::Nothing => !answer,
-        Denotation::Unsure => false,
-    }
-}
-
-// Whether the value denotes this tree under the type.
-fn gives(
-    alloc: Global,
-    value: Mem<ASN1Value>,
-    ty: Mem<ASN1Type>,
-    tree: Mem<Tree>,
-    answer: bool,
-) -> Mem<bool> {
-    let (definitions, (value, ty)) = both(types(alloc), both(value, ty))?;
-    let found = denoted(alloc, definitions.as_slice(), &value, &ty)?;
-    Ok(is_denoted(found, &tree?, answer))
-}
-
-// { a 7 }, read as two arcs
-fn a_and_seven(alloc: Global) -> Mem<ASN1Value> {
-    let arc = ObjectIdentifierArc {
-        name: Some(Text::new(alloc, "a")?),
-        number: None,
-    };
-    let number = ObjectIdentifierArc {
-        name: None,
-        number: Some(7),
-    };
-    let arcs = with(List::of(alloc, arc), Ok(number))?;
-    Ok(ASN1Value::ObjectIdentifier(ObjectIdentifierValue(arcs)))
-}
-
-// Whether the value stands for ALL under INTEGER.
-fn is_everything(alloc: Global, value: Mem<ASN1Value>, answer: Answer) -> Mem<bool> {
-    let (value, ty) = both(value, integer_with(free(alloc)))?;
-    let place = Place {
-        scope: Scope::Empty,
-        ty: TypeForm::Written(&ty),
-    };
-    let form = ValueForm::Written(&value);
-    Ok(is_all(alloc, &[], 12, &Scope::Empty, form, &place)? == answer)
-}
-
-// A whole number is a real too, and what was read as arcs is a field under a SEQUENCE.
-#[test]
-fn values(rt: HostRuntime) {
-    let alloc = rt.alloc();
-    assert_eq!(rt;
-        first_wrong(&[
-            gives(
-                alloc,
-                Ok(ASN1Value::Integer(3)),
-                Ok(ASN1Type::Real(Real {
-                    constraints: List::new(alloc)
-                })),
-                Ok(Tree::Real(RealValue {
-                    mantissa: 3,
-                    base: 10,
-                    exponent: 0
-                })),
-                true
-            ),
-            gives(
-                alloc,
-                Ok(ASN1Value::Integer(3)),
-                boolean(alloc),
-                whole(3),
-                false
-            ),
-            gives(
-                alloc,
-                a_and_seven(alloc),
-                named(alloc, "S"),
-                fields_of_one(alloc, "a", whole(7)),
-                true
-            ),
-            is_everything(alloc, Ok(ASN1Value::All), Answer::Yes),
-        ]),
-        None
-    );
-}
-
 // ---- shapes and places
 
 // Whether the tree has the shape of the type, whatever its constraints say.
@@ -267,7 +161,7 @@ fn members_of_s(alloc: Global, count: usize) -> Mem<bool> {
     }
 }
 
-// What S accepts has its shape, and so has what the value above denotes under it; a shape that is known stays with more steps.
+// What S accepts has its shape; a shape that is known stays with more steps.
 #[test]
 fn shapes_and_places(rt: HostRuntime) {
     let alloc = rt.alloc();
