@@ -1,8 +1,8 @@
 #!/usr/bin/env python3
-"""Times each reader of values on a megabyte, and its rule alone, and prints a table: readers.py [PROGRAM].
+"""Times readers on a megabyte, and their rules alone, and prints a table: readers.py [values|types] [PROGRAM].
 
-PROGRAM is the test program of asn_value_tests, as 'rt test' in crates/asn_value_tests leaves it; with none it is
-crates/asn_value_tests/out/asn_value_tests. Its tests `large::KIND_read` and `large::KIND_tried` make a text of that kind
+PROGRAM is the test program of asn_value_tests or of asn_large_tests, as 'rt test' in its folder leaves it; with none it is
+out/CRATE there, and with no word both are timed. Tests `large::KIND_read` and `large::KIND_tried` make a text of that kind
 of a million bytes or some more, and take it whole. Making the text is part of the time. Times are processor seconds, which
 other work on the machine changes little, and the best of five runs counts; nothing is asserted here.
 """
@@ -12,13 +12,19 @@ import resource
 import subprocess
 import sys
 
-KINDS = (
-    "bits", "octets", "characters", "arcs", "members", "items",
-    "times", "named_bits", "dotted_names", "numbers", "reals",
-)
+KINDS = {
+    "values": (
+        "bits", "octets", "characters", "arcs", "members", "items",
+        "times", "named_bits", "dotted_names", "numbers", "reals",
+    ),
+    "types": (
+        "members", "options", "named_numbers", "items", "constraints", "components",
+        "relations", "arguments", "class_fields", "fields", "words", "set_items",
+    ),
+}
+CRATES = {"values": "asn_value_tests", "types": "asn_large_tests"}
 RUNS = 5
 HERE = os.path.dirname(os.path.abspath(__file__))
-PROGRAM = os.path.join(HERE, "..", "crates", "asn_value_tests", "out", "asn_value_tests")
 
 
 def seconds_used():
@@ -45,18 +51,28 @@ def shown(seconds):
     return "failed" if seconds is None else f"{seconds:.3f}"
 
 
-def main(arguments):
-    """Prints the table."""
-    program = arguments[0] if arguments else PROGRAM
+def timed(family, program):
+    """Prints the table of a family; whether its program is there."""
     if not os.access(program, os.X_OK):
-        print(f"no program at {program}: build it with 'rt test' in crates/asn_value_tests", file=sys.stderr)
-        return 2
-    print(f"{'kind':<12}{'reader, s':>12}{'rule, s':>12}")
-    for kind in KINDS:
+        print(f"no program at {program}: build it with 'rt test' in crates/{CRATES[family]}", file=sys.stderr)
+        return False
+    print(f"{family:<16}{'reader, s':>12}{'rule, s':>12}")
+    for kind in KINDS[family]:
         read = seconds_of(program, f"large::{kind}_read")
         tried = seconds_of(program, f"large::{kind}_tried")
-        print(f"{kind:<12}{shown(read):>12}{shown(tried):>12}")
-    return 0
+        print(f"{kind:<16}{shown(read):>12}{shown(tried):>12}")
+    return True
+
+
+def main(arguments):
+    """Prints the tables."""
+    families = [arguments[0]] if arguments else list(KINDS)
+    there = True
+    for family in families:
+        crate = CRATES[family]
+        program = arguments[1] if len(arguments) > 1 else os.path.join(HERE, "..", "crates", crate, "out", crate)
+        there = timed(family, program) and there
+    return 0 if there else 2
 
 
 if __name__ == "__main__":

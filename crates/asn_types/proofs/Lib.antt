@@ -1,0 +1,14 @@
+pub mod AskedTypes
+pub mod AskedConstraints
+pub mod AskedObjects
+pub mod Equations
+pub mod Items
+pub mod LeftOver
+pub mod Numbered
+pub mod Numbers
+pub mod ViewsTypes
+pub mod ViewsConstraints
+pub mod EquationsOfConstraints
+pub mod ViewsObjects
+pub mod EquationsOfObjects
+pub mod ItemsOfObjects

@@ -1,0 +1,16 @@
+pub mod Read
+pub mod Choices
+pub mod Enumerations
+pub mod Members
+pub mod Types
+pub mod Constraints
+pub mod Sets
+pub mod Parameters
+pub mod Objects
+pub mod Reading
+pub mod Forms
+pub mod Children
+pub mod Elements
+pub mod Dummies
+pub mod Laws
+pub mod Classes
