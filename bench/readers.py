@@ -1,9 +1,11 @@
 #!/usr/bin/env python3
-"""Times readers on a megabyte, and their rules alone, and prints a table: readers.py [values|types] [PROGRAM].
+"""Times readers on large texts and prints tables: readers.py [values|types|modules] [PROGRAM].
 
-PROGRAM is the test program of asn_value_tests or of asn_large_tests, as 'rt test' in its folder leaves it; with none it is
-out/CRATE there, and with no word both are timed. Tests `large::KIND_read` and `large::KIND_tried` make a text of that kind
-of a million bytes or some more, and take it whole. Making the text is part of the time. Times are processor seconds, which
+PROGRAM is the test program of asn_value_tests, asn_large_tests or asn_example_tests, as 'rt test' in its folder leaves it;
+with none it is out/CRATE there, and with no word all are timed. For values and types, tests `large::KIND_read` and
+`large::KIND_tried` make a text of that kind of a million bytes or some more, and take it whole, by its reader and by its
+rule alone. For modules, tests `large::KIND_TIMES` read a usual module with its definitions 30, 300 and 600 times, of a
+hundred kilobytes, of one and of two megabytes. Making the text is part of the time. Times are processor seconds, which
 other work on the machine changes little, and the best of five runs counts; nothing is asserted here.
 """
 
@@ -22,7 +24,10 @@ KINDS = {
         "relations", "arguments", "class_fields", "fields", "words", "set_items",
     ),
 }
-CRATES = {"values": "asn_value_tests", "types": "asn_large_tests"}
+# a module: the bytes before its first definition and behind its last one
+MODULES = {"certificates": (539, 4), "directory": (427, 4), "mobile": (137, 94)}
+TIMES = (30, 300, 600)
+CRATES = {"values": "asn_value_tests", "types": "asn_large_tests", "modules": "asn_example_tests"}
 RUNS = 5
 HERE = os.path.dirname(os.path.abspath(__file__))
 
@@ -51,11 +56,26 @@ def shown(seconds):
     return "failed" if seconds is None else f"{seconds:.3f}"
 
 
+def timed_modules(program):
+    """Prints the table of whole texts."""
+    print(f"{'module':<16}{'bytes':>12}{'seconds':>12}{'us a byte':>12}")
+    for name, (before, behind) in MODULES.items():
+        length = os.path.getsize(os.path.join(HERE, "..", "examples", f"{name}.asn1"))
+        for times in TIMES:
+            size = before + behind + times * (length - before - behind)
+            read = seconds_of(program, f"large::{name}_{times}")
+            each = "failed" if read is None else f"{read / size * 1e6:.2f}"
+            print(f"{name:<16}{size:>12}{shown(read):>12}{each:>12}")
+
+
 def timed(family, program):
     """Prints the table of a family; whether its program is there."""
     if not os.access(program, os.X_OK):
         print(f"no program at {program}: build it with 'rt test' in crates/{CRATES[family]}", file=sys.stderr)
         return False
+    if family == "modules":
+        timed_modules(program)
+        return True
     print(f"{family:<16}{'reader, s':>12}{'rule, s':>12}")
     for kind in KINDS[family]:
         read = seconds_of(program, f"large::{kind}_read")
@@ -66,7 +86,7 @@ def timed(family, program):
 
 def main(arguments):
     """Prints the tables."""
-    families = [arguments[0]] if arguments else list(KINDS)
+    families = [arguments[0]] if arguments else list(CRATES)
     there = True
     for family in families:
         crate = CRATES[family]

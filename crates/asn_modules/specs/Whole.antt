@@ -1,45 +1,16 @@
--- The reading of a whole text, and what is told of one that has none: over any table, what stands in its modules, and any
--- function that reads a node; and over those of the first part of ASN.1.
-use Rattle.std.specs.Prelude.{◌≡◌, ℕ, List, [], ◌∷◌, Option, Some}
-use Rattle.asn_rules.specs.Expression.{Expression, rule}
-use Rattle.asn_rules.specs.First.{first}
-use Rattle.asn_rules.specs.Derives.{Derives}
-use Rattle.asn_rules.specs.declared.names.TheConstants.{ASN_SPEC}
-use Rattle.asn_rules.specs.declared.node.Node.{Node}
-use Rattle.asn_rules.specs.Due.{Piece, IsDue, context_of, pieces_of, reason_of}
-use Rattle.asn_rules.specs.declared.due.ModulePart.{ModulePart}
-use Rattle.asn_rules.specs.declared.grammar.Grammar.TheVariants.{First}
-use Rattle.asn_text.specs.Report.{IsReport}
+-- The reading of a whole text, and what is told of one that has none.
+use Rattle.std.specs.Prelude.{ℕ, List}
+use Rattle.asn_derivation.specs.Derivation.{IsMatchingErrorBy, IsReadingBy}
+use Rattle.asn_rules.specs.Due.{pieces_of}
+use Rattle.asn_rules.specs.Whole.{whole_rules}
+use Rattle.asn_rules.specs.declared.grammar.Grammar.TheVariants.{Whole}
 use Rattle.asn_text.specs.declared.report.LexerError.{LexerError}
-use Rattle.asn_text.specs.declared.report.LexerErrorType.{LexerErrorType}
-use Rattle.asn_text.specs.declared.report.LexerErrorType.TheVariants.{MatchingError}
-use Rattle.asn_text.specs.declared.report.ReportData.{ReportData}
 use Rattle.asn_modules.specs.Modules.{Module, reading_of}
 
--- By these rules the one of a whole text ends from its start on, by way of the node.
-abbrev pub IsNodeBy : List Expression → List ℕ → Node → Type 0
-IsNodeBy rules text n = (j : ℕ) × Derives rules text (rule ASN_SPEC) 0 j (n ∷ [])
-
--- And this is what the node reads as.
-abbrev pub IsReadingBy : {Read : Type 0} → List Expression → (List ℕ → Node → Option Read) → List ℕ → Read → Type 0
-IsReadingBy rules read text reading = (j : ℕ) × (n : Node) × Derives rules text (rule ASN_SPEC) 0 j (n ∷ []) × (read text n ≡ Some reading)
-
--- The reading by the rules of the first part of ASN.1.
+-- The reading by the rules of the whole of ASN.1.
 abbrev pub IsReading : List ℕ → List Module → Type 0
-IsReading text reading = IsReadingBy first reading_of text reading
+IsReading text reading = IsReadingBy whole_rules reading_of text reading
 
-abbrev pub report_of : LexerErrorType → ReportData
-report_of (MatchingError report) = report
-
--- The text lacks a part of a module, which is made of these pieces, and the error tells where: the first part that does not
--- stand, its place, and why.
-pub record IsMatchingErrorBy (rules : List Expression) (pieces : List Piece) (text : List ℕ) (depth : ℕ) (error : LexerError) : Type 0 where
-  pub part : ModulePart
-  pub begun : ℕ
-  pub place : ℕ
-  pub due : IsDue rules text depth pieces 0 part begun place
-  pub told : IsReport text place (context_of part begun place) (reason_of part) (report_of error.kind)
-
--- The same by the rules of the first part of ASN.1.
+-- The text lacks a part of a module by these rules, and the error tells which, and where.
 abbrev pub IsMatchingError : List ℕ → ℕ → LexerError → Type 0
-IsMatchingError text depth error = IsMatchingErrorBy first (pieces_of First) text depth error
+IsMatchingError text depth error = IsMatchingErrorBy whole_rules (pieces_of Whole) text depth error

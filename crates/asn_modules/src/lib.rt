@@ -1,13 +1,22 @@
-//! Typed trees read off the derivation of a text: headers, definitions and whole readings.
+//! The readers of definitions, of modules and of whole texts.
 //!
-//! It stands on the grammar, which gives one derivation for each text that is read, and on the trees. No reader
-//! here sees an outcome or asks the grammar anything: each is a function of a node, and offsets occur only as the
-//! bounds of a slice. The layer above calls `asn_spec` alone.
+//! It stands on the readers of headers, types, values, constraints and objects, and reads no outcome: each reader is a
+//! function of a node. The public readers read the rule of their name where an input begins; [`asn_spec`] reads a whole
+//! text by the table of the whole of ASN.1.
 #![tactic(auto)]
 
+mod headings;
+mod information;
 mod modules;
-mod parts;
+mod readers;
 mod types;
+mod values;
 mod whole;
 
-pub use whole::{SpecError, asn_spec, one_reading};
+pub use asn_derivation::SpecError;
+pub use asn_header_readers::module_reference;
+pub use readers::{
+    asn_module, enumerated_value, top_level_information_declaration, top_level_type_declaration,
+    top_level_value_declaration,
+};
+pub use whole::{asn_spec, one_reading};

@@ -1,119 +1,46 @@
-//! Headers, definitions and modules.
+//! Definitions of every kind, and modules.
 
-ghost use Rattle.asn_modules.specs.Modules.{declared_in, definition_of, definitions_of, environment_in, environment_of, header_of, module_of, modules_of, a_definition, a_header};
+ghost use Rattle.asn_modules.specs.Modules.{definition_of, definitions_in, module_of, modules_in};
 ghost use Rattle.asn_rules.specs.Children.{Is, StandsBy};
-ghost use Rattle.asn_rules.specs.First.{first};
-ghost use Rattle.asn_rules.specs.declared.names.TheConstants.{ASN_MODULE, DEFINITION, ENVIRONMENTS, MODULE_REFERENCE, TAG_DEFAULT, TOP_LEVEL_TYPE_DECLARATION};
+ghost use Rattle.asn_rules.specs.Whole.{whole_rules};
+ghost use Rattle.asn_rules.specs.declared.names.TheConstants.{ASN_MODULE, DEFINITION};
 ghost use Rattle.std.specs.Prelude.{◌≡◌, All, IfOk, Some};
 
-use crate::parts::{children, read_name};
-use crate::types::read_type;
-use asn_memory::{List, Mem, Text};
+use crate::information::read_information;
+use crate::types::read_type_definition;
+use crate::values::read_value_definition;
+use asn_header_readers::read_header;
+use asn_headers::ModuleReference;
+use asn_literals::children;
+use asn_memory::{List, Mem};
 use asn_rules::{Node, names};
-use asn_tree::{
-    ASN1Type, ExtensibilityEnvironment, ModuleReference, Reading, TaggingEnvironment,
-    ToplevelDefinition, ToplevelTypeDefinition,
-};
+use asn_tree::{Reading, ToplevelDefinition};
 use std::alloc::Global;
 
-/// The tagging environment that a word names.
-#[tactic(auto, using(crate::proofs::Views::environment_has_word, crate::proofs::Views::no_other_word))]
-fn read_environment(text: &[u8], node: &Node) -> TaggingEnvironment
-    requires { Is first text.now TAG_DEFAULT node.now }
-    ensures { environment_of node.now ≡ Some result }
-{
-    match node.first_child().rule {
-        names::MARK_AUTOMATIC => TaggingEnvironment::Automatic,
-        names::MARK_IMPLICIT => TaggingEnvironment::Implicit,
-        names::MARK_EXPLICIT => TaggingEnvironment::Explicit,
-        _ => unreachable!(),
-    }
-}
-
-/// The tagging environment of a module's header.
-fn read_environments(text: &[u8], node: &Node) -> TaggingEnvironment
-    requires { Is first text.now ENVIRONMENTS node.now }
-    ensures { environment_in node.now ≡ Some result }
-{
-    match node.child(names::TAG_DEFAULT) {
-        Some(environment) => read_environment(text, environment),
-        None => TaggingEnvironment::Explicit,
-    }
-}
-
-/// A header with this name and tagging environment and nothing else.
-fn header(alloc: Global, name: Text, tagging_environment: TaggingEnvironment) -> ModuleReference
-    ensures { result ≡ a_header name tagging_environment }
-{
-    ModuleReference {
-        name,
-        module_identifier: None,
-        encoding_reference_default: None,
-        tagging_environment,
-        extensibility_environment: ExtensibilityEnvironment::Explicit,
-        imports: List::new(alloc),
-        exports: None,
-    }
-}
-
-/// A module's header.
-#[tactic(auto, using(crate::proofs::Views::header_has_name, crate::proofs::Views::header_has_environments, crate::proofs::Views::name_has_blanks))]
-fn read_header(alloc: Global, text: &[u8], node: &Node) -> Mem<ModuleReference>
-    requires { Is first text.now MODULE_REFERENCE node.now }
-    ensures { IfOk result (λ h. header_of text.now node.now ≡ Some h) }
-{
-    let name = read_name(alloc, text, node.the_child(names::IDENTIFIER))?;
-    let environment = read_environments(text, node.the_child(names::ENVIRONMENTS));
-    Ok(header(alloc, name, environment))
-}
-
-/// The definition of a name as this type.
-fn definition(alloc: Global, name: Text, ty: ASN1Type) -> Mem<ToplevelDefinition>
-    ensures { IfOk result (λ d. d ≡ a_definition name ty) }
-{
-    Ok(ToplevelDefinition::TypeDef(ToplevelTypeDefinition {
-        comments: Text::new(alloc, "")?,
-        tag: None,
-        name,
-        ty,
-        parameterization: None,
-        index: None,
-    }))
-}
-
-/// A type definition: a name, the assignment, a type.
-#[tactic(auto, using(crate::proofs::Views::declaration_has_name, crate::proofs::Views::declaration_has_three, crate::proofs::Views::type_name_has_blanks))]
-fn read_declaration(alloc: Global, text: &[u8], node: &Node) -> Mem<ToplevelDefinition>
-    requires { Is first text.now TOP_LEVEL_TYPE_DECLARATION node.now }
-    ensures { IfOk result (λ d. declared_in text.now node.now ≡ Some d) }
-{
-    let name = read_name(alloc, text, node.the_child(names::TITLE_CASE_IDENTIFIER))?;
-    match node.children.as_slice() {
-        [_, _, ty] => {
-            let ty = read_type(alloc, text, ty)?;
-            definition(alloc, name, ty)
-        }
-        _ => unreachable!(),
-    }
-}
-
-/// A definition.
-#[tactic(auto, using(crate::proofs::Views::definition_has_declaration))]
+/// A definition: of a class, an object or an object set, of a type, or of a value (X.680 16, X.681 9, 11, 12).
+#[tactic(auto, using(crate::proofs::Views::definition_has_value))]
 fn read_definition(alloc: Global, text: &[u8], node: &Node) -> Mem<ToplevelDefinition>
-    requires { Is first text.now DEFINITION node.now }
-    ensures { IfOk result (λ d. definition_of text.now node.now ≡ Some d) }
+    requires { Is whole_rules text.now DEFINITION node.now }
+    ensures { IfOk result (λ definition. definition_of text.now node.now ≡ Some definition) }
 {
-    read_declaration(
-        alloc,
-        text,
-        node.the_child(names::TOP_LEVEL_TYPE_DECLARATION),
-    )
+    if let Some(information) = node.child(names::TOP_LEVEL_INFORMATION_DECLARATION) {
+        let definition = read_information(alloc, text, information)?;
+        return Ok(ToplevelDefinition::Information(definition));
+    }
+    match node.child(names::TOP_LEVEL_TYPE_DECLARATION) {
+        Some(ty) => Ok(ToplevelDefinition::TypeDef(read_type_definition(alloc, text, ty)?)),
+        None => {
+            let value = node.the_child(names::TOP_LEVEL_VALUE_DECLARATION);
+            Ok(ToplevelDefinition::Value(read_value_definition(alloc, text, value)?))
+        }
+    }
 }
 
-#[tactic(auto, using(crate::proofs::Views::as_rule, asn_literals::proofs::Equations::takes_next, asn_literals::proofs::Equations::passes_next))]
+/// The definitions among the nodes.
+#[tactic(auto, using(asn_literals::proofs::Views::as_rule, asn_literals::proofs::Equations::takes_next, asn_literals::proofs::Equations::passes_next))]
 fn read_definitions(alloc: Global, text: &[u8], nodes: &[Node]) -> Mem<List<ToplevelDefinition>>
-    requires { All (StandsBy first text.now) nodes.now }
-    ensures { IfOk result (λ ds. definitions_of text.now nodes.now ≡ Some ds) }
+    requires { All (StandsBy whole_rules text.now) nodes.now }
+    ensures { IfOk result (λ definitions. definitions_in text.now nodes.now ≡ Some definitions) }
 {
     let mut definitions = List::new(alloc);
     for node in nodes {
@@ -124,26 +51,26 @@ fn read_definitions(alloc: Global, text: &[u8], nodes: &[Node]) -> Mem<List<Topl
     Ok(definitions)
 }
 
-/// A module: its header and its definitions.
+/// A module: its header and its definitions (X.680 13.1).
 #[tactic(auto, using(crate::proofs::Views::module_has_header))]
-fn read_module(
+pub(crate) fn read_module(
     alloc: Global,
     text: &[u8],
     node: &Node,
 ) -> Mem<(ModuleReference, List<ToplevelDefinition>)>
-    requires { Is first text.now ASN_MODULE node.now }
-    ensures { IfOk result (λ m. module_of text.now node.now ≡ Some m) }
+    requires { Is whole_rules text.now ASN_MODULE node.now }
+    ensures { IfOk result (λ read. module_of text.now node.now ≡ Some read) }
 {
     let header = read_header(alloc, text, node.the_child(names::MODULE_REFERENCE))?;
     let definitions = read_definitions(alloc, text, children(text, node))?;
     Ok((header, definitions))
 }
 
-/// The modules of a whole text.
-#[tactic(auto, using(crate::proofs::Views::as_rule, asn_literals::proofs::Equations::takes_next, asn_literals::proofs::Equations::passes_next))]
+/// The modules among the nodes.
+#[tactic(auto, using(asn_literals::proofs::Views::as_rule, asn_literals::proofs::Equations::takes_next, asn_literals::proofs::Equations::passes_next))]
 pub(crate) fn read_modules(alloc: Global, text: &[u8], nodes: &[Node]) -> Mem<Reading>
-    requires { All (StandsBy first text.now) nodes.now }
-    ensures { IfOk result (λ ms. modules_of text.now nodes.now ≡ Some ms) }
+    requires { All (StandsBy whole_rules text.now) nodes.now }
+    ensures { IfOk result (λ read. modules_in text.now nodes.now ≡ Some read) }
 {
     let mut modules = List::new(alloc);
     for node in nodes {

@@ -2,8 +2,8 @@
 
 use crate::parts::{first_definition, range_in, sequence_in};
 use asn_copy::copy_reading;
+use asn_first::{SpecError, asn_spec};
 use asn_memory::Mem;
-use asn_modules::{SpecError, asn_spec};
 use asn_tree::{ASN1Type, Reading, SequenceOrSet, TaggingEnvironment};
 use std::alloc::Global;
 use std::test::Fail;

@@ -1,6 +1,6 @@
 //! What is told of texts that do not match: each part of a module in its turn.
 
-use asn_modules::{SpecError, asn_spec};
+use asn_first::{SpecError, asn_spec};
 use asn_text::{LexerError, LexerErrorType, ReportData};
 use std::alloc::Global;
 

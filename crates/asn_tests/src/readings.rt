@@ -1,6 +1,6 @@
 //! What the readers make of a text.
 
-use asn_modules::{SpecError, asn_spec};
+use asn_first::{SpecError, asn_spec};
 use asn_tree::Reading;
 use std::alloc::Global;
 

@@ -14,10 +14,10 @@ use Rattle.asn_tree.specs.declared.definitions.ToplevelTypeDefinition.{ToplevelT
 use Rattle.asn_tree.specs.declared.types.ASN1Type.{ASN1Type}
 use Rattle.asn_tree.specs.declared.types.SequenceOrSetMember.{SequenceOrSetMember}
 use Rattle.asn_literals.specs.Parts.{all_some, of_some}
-use Rattle.asn_modules.specs.Parts.{name_of, number_of}
-use Rattle.asn_modules.specs.Types.{Typed, typed, typed_step, type_of, type_step, a_boolean, an_integer, a_reference, a_struct, a_member, constraint_of, first_type, member_with, nodes, range_element, integer_with, reference_to, struct_with}
-use Rattle.asn_modules.specs.Modules.{a_definition, defined_by, declared_in, definition_of, header_of, module_of, modules_of, reading_of}
-use Rattle.asn_modules.specs.Modules as read
+use Rattle.asn_first.specs.Parts.{name_of, number_of}
+use Rattle.asn_first.specs.Types.{Typed, typed, typed_step, type_of, type_step, a_boolean, an_integer, a_reference, a_struct, a_member, constraint_of, first_type, member_with, nodes, range_element, integer_with, reference_to, struct_with}
+use Rattle.asn_first.specs.Modules.{a_definition, defined_by, declared_in, definition_of, header_of, module_of, modules_of, reading_of}
+use Rattle.asn_first.specs.Modules as read
 use Rattle.asn_meaning.specs.Definitions.{type_named}
 use Rattle.asn_meaning.specs.Plain.{IsPlain}
 use Rattle.asn_names.specs.Definitions.{Definitions, Module, definitions_of, last_named, is_named}

@@ -4,7 +4,7 @@ use Rattle.std.specs.Prelude.{IfSome, String}
 use Rattle.std.specs.Global.{Global}
 use Rattle.asn_check.specs.declared.linked.Linked.{Linked}
 use Rattle.asn_check.specs.Linked.{IsLinkedOf}
-use Rattle.asn_modules.specs.Whole.{IsReading}
+use Rattle.asn_first.specs.Whole.{IsReading}
 use Rattle.asn_names.specs.Definitions.{Module, definitions_of}
 use Rattle.asn_rules.specs.Expression.{rule}
 use Rattle.asn_rules.specs.First.{first}

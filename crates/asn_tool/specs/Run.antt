@@ -6,7 +6,8 @@ use Rattle.std.specs.Str.{IsUtf8}
 use Rattle.asn_check.specs.declared.linked.Linked.{Linked}
 use Rattle.asn_check.specs.Linked.{IsLinkedOf}
 use Rattle.asn_check.specs.Listing.{listing_of}
-use Rattle.asn_modules.specs.Whole.{IsMatchingError, IsReading, report_of}
+use Rattle.asn_derivation.specs.Derivation.{report_of}
+use Rattle.asn_first.specs.Whole.{IsMatchingError, IsReading}
 use Rattle.asn_names.specs.Definitions.{Module}
 use Rattle.asn_rules.specs.First.{first}
 use Rattle.asn_rules.specs.Valid.{Fails, IsDeeper, IsValid}

@@ -1,6 +1,6 @@
 //! From the bytes of a text to what is to be written: the status, the trees and the listing or the line.
 
-ghost use Rattle.asn_modules.specs.Whole.{report_of};
+ghost use Rattle.asn_derivation.specs.Derivation.{report_of};
 ghost use Rattle.asn_tool.specs.inner.Output.{an_error, IsLine, IsOutputOf, IsOutputOfReading};
 ghost use Rattle.asn_tool.specs.Lines.{depth_line, matching_line};
 ghost use Rattle.asn_tool.specs.Run.{place_line, status_of};
@@ -11,8 +11,8 @@ ghost use Rattle.std.specs.Prelude.{◌≡◌, ◌<◌, length};
 use crate::lines::{depth_line, matching_line};
 use crate::status::Status;
 use asn_check::{Linked, link_reading, listing};
+use asn_first::{SpecError, asn_spec};
 use asn_memory::Text;
-use asn_modules::{SpecError, asn_spec};
 use asn_text::{LexerError, LexerErrorType};
 use asn_tree::Reading;
 use std::alloc::Global;

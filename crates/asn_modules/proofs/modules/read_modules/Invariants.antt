@@ -1,7 +1,7 @@
 use Rattle.std.proofs.Common.{◌≡◌, drop}
 use Rattle.asn_literals.proofs.Equations.{behind}
-use Rattle.asn_modules.specs.Modules.{modules_of}
+use Rattle.asn_modules.specs.Modules.{modules_in}
 use Rattle.asn_modules.proofs.modules.read_modules.Given as goal
 
 abbrev pub invariant-loop-node : goal.invariant-loop-node
-invariant-loop-node l = behind l.modules (modules_of l.text (drop l.node-index l.nodes)) ≡ modules_of l.text l.nodes
+invariant-loop-node l = behind l.modules (modules_in l.text (drop l.node-index l.nodes)) ≡ modules_in l.text l.nodes

@@ -1,0 +1,6 @@
+pub mod Bytes
+pub mod Walks
+pub mod Absent
+pub mod Counts
+pub mod Tables
+pub mod Bound

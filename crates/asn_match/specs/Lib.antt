@@ -1,0 +1,4 @@
+pub mod Chain
+pub mod Table
+pub mod Looks
+pub mod inner

@@ -1,0 +1,17 @@
+//! The packrat table: what each rule that was tried comes to at each offset, found once and kept, and the looks at the text
+//! that it takes, counted.
+//!
+//! It stands on the table of rules, and reads a text one byte at a look. Time and memory grow with the pairs of rule and
+//! offset that are tried.
+#![tactic(auto)]
+
+mod chains;
+mod probe;
+mod run;
+mod sights;
+mod table;
+mod tries;
+
+pub use chains::MatchTable;
+pub use probe::{Probe, Steps};
+pub use tries::{match_rule, match_table, tried};
