@@ -1,5 +1,5 @@
 -- How many looks a try takes.
-use Rattle.std.proofs.Common.{◌≡◌, ℕ, zero, suc, ◌+◌, ◌-◌, ◌*◌, ◌<◌, ◌≤◌, List, [], ◌∷◌, Bool, true, false, Option, Some, None, length, refl, sym, ap, ◌∙◌, subst, arith, ◌⊎◌, inl, inr}
+use Rattle.std.proofs.Common.{◌≡◌, ℕ, zero, suc, ◌+◌, ◌-◌, ◌*◌, ◌<◌, ◌≤◌, List, [], ◌∷◌, Bool, true, false, None, length, refl, sym, ap, subst, arith, ◌⊎◌, inl, inr}
 use Rattle.std.specs.Prelude.{nat_eq, ◌&&◌, if◌then◌else◌, is_some}
 use Rattle.std.proofs.lemmas.Bool.Decides.{eqb_tells}
 use Rattle.std.proofs.lemmas.Bool.{cases_lt}
@@ -9,7 +9,6 @@ use Rattle.asn_match.specs.Table.{at, Tries, itself, in_skipped, in_body, in_fir
 use Rattle.asn_match.specs.Looks.{looks, own, total, Pairs, price, has, Covers, Spends}
 use Rattle.asn_match.specs.declared.chains.MatchTable.{MatchTable}
 use Rattle.asn_guards.specs.declared.asked.Guard.{Guard}
-use Rattle.asn_rules.specs.declared.marks.Mark.{Mark}
 use Rattle.std.proofs.Math.Nat.{mul-le-mul_left, mul-le-mul_right}
 use Rattle.std.proofs.lemmas.Bool.Decides.{nat_tests}
 use Rattle.asn_rules.specs.Runs.{seen}

@@ -1,5 +1,5 @@
 -- Entries that each lead to an earlier one.
-use Rattle.std.specs.Prelude.{◌≡◌, ℕ, zero, suc, ◌≤◌, ◌<◌, List, Option, Some, None, nat_eq, if◌then◌else◌, slice_get, IfSome, length}
+use Rattle.std.specs.Prelude.{◌≡◌, ℕ, zero, suc, ◌≤◌, List, Option, Some, None, nat_eq, if◌then◌else◌, slice_get}
 use Rattle.asn_match.specs.declared.chains.Entry.{Entry}
 use Rattle.asn_rules.specs.declared.run.Outcome.{Outcome}
 

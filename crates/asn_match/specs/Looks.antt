@@ -1,10 +1,8 @@
 -- How many looks a try takes.
-use Rattle.std.specs.Prelude.{◌≡◌, ℕ, zero, suc, ◌+◌, ◌*◌, ◌≤◌, List, Bool, true, false, if◌then◌else◌, length, is_some}
+use Rattle.std.specs.Prelude.{◌≡◌, ℕ, zero, suc, ◌+◌, ◌*◌, ◌≤◌, List, Bool, true, if◌then◌else◌, length, is_some}
 use Rattle.asn_rules.specs.Expression.{Expression, see, marked, seq, choice, many, never, guarded, rule, skip, Sight, bytes, word, one_of, rule_of}
 use Rattle.asn_match.specs.Table.{at, Tries}
 use Rattle.asn_match.specs.declared.chains.MatchTable.{MatchTable}
-use Rattle.asn_guards.specs.declared.asked.Guard.{Guard}
-use Rattle.asn_rules.specs.declared.marks.Mark.{Mark}
 
 -- the most that one test of what stands at an offset looks at
 abbrev pub looks : Sight → ℕ

@@ -1,12 +1,10 @@
-use Rattle.std.proofs.Common.{◌≡◌, ◌+◌, ◌-◌, ◌<◌, max, sym, ap, ◌∙◌, refl, arith, rules, Ok, length, subst}
+use Rattle.std.proofs.Common.{◌≡◌, ◌-◌, ◌<◌, max, sym, ap, ◌∙◌, arith, Ok, length, subst}
 use Rattle.asn_rules.specs.Expression.{expression, see, marked, sight, many, rule}
 use Rattle.asn_rules.specs.inner.Answer.{answer, raise, IsWithinOutcome}
 use Rattle.asn_rules.specs.Grammar.{rules_of}
-use Rattle.asn_match.specs.Table.{Adds}
-use Rattle.asn_rules.specs.declared.run.Outcome.TheVariants.{End, Fail}
 use Rattle.asn_rules.proofs.Theory.{called, many_answer, raise_raise, max_is}
-use Rattle.asn_match.proofs.Tables.{seq_on, seq_off, choice_on, choice_off, never_adds, guarded_adds, many_off, many_idles, many_on, hit, entered, hit_value, hit_within, hit_deep, body_runs, entry, skip_adds}
-use Rattle.asn_match.proofs.Counts.{idles, seq_part, seq_parts, choice_part, choice_parts, never_part, guarded_part, none_turned, one_turned, last_turned, called_rule, see_within, skipped}
+use Rattle.asn_match.proofs.Tables.{seq_on, seq_off, choice_on, choice_off, never_adds, guarded_adds, many_off, many_idles, many_on, entered, hit_value, hit_within, hit_deep, body_runs, entry, skip_adds}
+use Rattle.asn_match.proofs.Counts.{idles, seq_part, seq_parts, choice_part, choice_parts, never_part, guarded_part, one_turned, last_turned, called_rule, see_within, skipped}
 use Rattle.asn_match.proofs.Tables.{End-runs, Fail-runs}
 use Rattle.asn_match.proofs.Bound.{rules_run}
 use Rattle.asn_match.proofs.run.+matching.Goals as goal

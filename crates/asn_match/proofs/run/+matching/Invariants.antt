@@ -1,6 +1,6 @@
-use Rattle.std.proofs.Common.{◌≡◌, ◌≤◌, ◌<◌, ◌+◌, ◌-◌, ◌*◌, ℕ, suc, length}
-use Rattle.asn_rules.specs.Expression.{Expression, expression, many, weight}
-use Rattle.asn_rules.specs.inner.Answer.{answer, turns, raise}
+use Rattle.std.proofs.Common.{◌≡◌, ◌≤◌, ◌+◌, ◌-◌, ◌*◌, length}
+use Rattle.asn_rules.specs.Expression.{expression, many, weight}
+use Rattle.asn_rules.specs.inner.Answer.{answer, raise}
 use Rattle.asn_rules.specs.Grammar.{rules_of}
 use Rattle.asn_match.specs.Table.{Holds, Adds}
 use Rattle.asn_match.specs.declared.chains.MatchTable.{MatchTable}

@@ -1,4 +1,4 @@
-use Rattle.std.proofs.Common.{refl, sym, ◌∙◌, arith, ◌-◌, nat_eq, ◌≡◌, false}
+use Rattle.std.proofs.Common.{refl, ◌∙◌, arith, ◌-◌}
 use Rattle.std.proofs.lemmas.Bool.Decides.{nat_tests}
 use Rattle.std.proofs.lemmas.Option.{slice_get_read}
 use Rattle.asn_match.proofs.Walks.{next_place}

@@ -1,4 +1,4 @@
-use Rattle.std.proofs.Common.{refl, sym, ap, ◌∙◌, arith, suc, length, ◌≡◌, ◌++◌, ◌∷◌, [], Some, length-append}
+use Rattle.std.proofs.Common.{refl, ap, ◌∙◌, arith, suc, length, ◌≡◌, ◌++◌, ◌∷◌, [], Some, length-append}
 use Rattle.asn_match.specs.Chain.{from_place}
 use Rattle.std.specs.Prelude.{slice_get, slice_set, nat_eq, ◌&&◌, if◌then◌else◌}
 use Rattle.asn_match.specs.declared.chains.Entry.{Entry}
