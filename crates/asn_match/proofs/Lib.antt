@@ -4,3 +4,5 @@ pub mod Absent
 pub mod Counts
 pub mod Tables
 pub mod Bound
+pub mod Comes
+pub mod Grows

@@ -6,6 +6,9 @@
 #![tactic(auto)]
 
 mod chains;
+mod come;
+mod derive;
+mod grow;
 mod probe;
 mod run;
 mod sights;
@@ -13,5 +16,6 @@ mod table;
 mod tries;
 
 pub use chains::MatchTable;
+pub use derive::derive_rule;
 pub use probe::{Probe, Steps};
 pub use tries::{match_rule, match_table, tried};

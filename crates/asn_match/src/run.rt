@@ -18,7 +18,7 @@ use asn_rules::{Expression, Grammar, Guard, MatchFault, Outcome, rule_expression
 use std::sync::ledger::Ledger;
 
 // The outcome with a height of at least this.
-fn raised(outcome: Outcome, least: usize) -> Outcome
+pub(crate) fn raised(outcome: Outcome, least: usize) -> Outcome
     ensures { result ≡ raised least outcome }
 {
     match outcome {

@@ -1,7 +1,8 @@
 //! Tables of what a rule tries at the start of a text.
 
 ghost use Rattle.asn_match.specs.Looks.{has, price};
-ghost use Rattle.asn_match.specs.Table.{IsTableOf};
+ghost use Rattle.asn_match.specs.Table.{Holds, IsTableOf};
+ghost use Rattle.asn_match.specs.inner.Given.{Enters};
 ghost use Rattle.asn_rules.specs.Expression.{rule as rule_call};
 ghost use Rattle.asn_rules.specs.Grammar.{rules_of};
 ghost use Rattle.asn_rules.specs.Runs.{Ending, Exceeds, Runs};
@@ -15,6 +16,39 @@ use crate::run::run_rule;
 use asn_rules::{Grammar, MatchFault, RuleId, names};
 use std::alloc::Global;
 use std::sync::ledger::Ledger;
+
+// The same, with what the readers of a table stand on: each entry is right, and all that was tried for it has one.
+pub(crate) fn filled<L: Ledger>(
+    alloc: Global,
+    grammar: Grammar,
+    text: &Probe,
+    rule: RuleId,
+    depth: usize,
+    steps: &mut Steps<L>,
+) -> Result<MatchTable, MatchFault>
+    ensures table { IfOk result (λ t. IsTableOf (rules_of grammar) text.now rule.number t) }
+    ensures kept { IfOk result (λ t. Holds (rules_of grammar) text.now t × Enters (rules_of grammar) text.now t (rule_call rule.number) 0) }
+    ensures flat { IsOk result → (o : Ending) (h : ℕ) → Runs (rules_of grammar) text.now (rule_call rule.number) 0 o h → h ≤ depth }
+    ensures deep { result ≡ Err TooDeep → Exceeds (rules_of grammar) text.now (rule_call rule.number) 0 depth }
+    ensures looks { steps.new ≤ steps.old + ((190 * 64) * (length text.now + 1)) * (length text.now + 2) }
+    ensures paid { IfOk result (λ t. steps.new ≤ steps.old + price (rules_of grammar) (length text.now) (has t)) }
+{
+    let mut table = MatchTable::new(alloc);
+    let mut taken = Vec::new(alloc);
+    match run_rule(
+        grammar,
+        text,
+        rule.number,
+        0,
+        depth,
+        &mut table,
+        &mut taken,
+        steps,
+    ) {
+        Ok(_) => Ok(table),
+        Err(fault) => Err(fault),
+    }
+}
 
 /// The table of all that the rule of the grammar tries at the start of the text, where no more than `depth` calls lie within
 /// each other: the pairs of rule and offset that are tried in its derivation, each with its outcome and its height, and no
@@ -39,21 +73,7 @@ pub fn tried<L: Ledger>(
     ensures looks { steps.new ≤ steps.old + ((190 * 64) * (length text.now + 1)) * (length text.now + 2) }
     ensures paid { IfOk result (λ t. steps.new ≤ steps.old + price (rules_of grammar) (length text.now) (has t)) }
 {
-    let mut table = MatchTable::new(alloc);
-    let mut taken = Vec::new(alloc);
-    match run_rule(
-        grammar,
-        text,
-        rule.number,
-        0,
-        depth,
-        &mut table,
-        &mut taken,
-        steps,
-    ) {
-        Ok(_) => Ok(table),
-        Err(fault) => Err(fault),
-    }
+    filled(alloc, grammar, text, rule, depth, steps)
 }
 
 /// The same by the table of the whole of ASN.1.

@@ -13,7 +13,7 @@ use std::test::Fail;
 /// The table of a whole text, with a counter of its own.
 fn whole<L: Ledger>(
     alloc: Global,
-    text: &str,
+    text: &Probe,
     depth: usize,
     blank: Blank,
 ) -> Result<MatchTable, MatchFault>
@@ -22,13 +22,13 @@ fn whole<L: Ledger>(
     requires some { 0 < blank.parts }
 {
     let mut steps = Steps::<L>::new(blank);
-    match_table(alloc, &Probe::new(text), depth, &mut steps)
+    match_table(alloc, text, depth, &mut steps)
 }
 
 /// The table of a rule, with a counter of its own.
 fn of_rule<L: Ledger>(
     alloc: Global,
-    text: &str,
+    text: &Probe,
     rule: RuleId,
     blank: Blank,
 ) -> Result<MatchTable, MatchFault>
@@ -37,13 +37,18 @@ fn of_rule<L: Ledger>(
     requires some { 0 < blank.parts }
 {
     let mut steps = Steps::<L>::new(blank);
-    match_rule(alloc, &Probe::new(text), rule, 512, &mut steps)
+    match_rule(alloc, text, rule, 512, &mut steps)
 }
 
 #[test]
 fn a_small_module(rt: HostRuntime) {
     let alloc = rt.alloc();
-    let answer = whole::<Brand>(alloc, "M DEFINITIONS ::= BEGIN END", 512, Blank::new(1));
+    let answer = whole::<Brand>(
+        alloc,
+        &Probe::new("M DEFINITIONS ::= BEGIN END"),
+        512,
+        Blank::new(1),
+    );
     let table = answer.ok();
     assert!(rt; table.is_some());
     if let Some(table) = table {
@@ -62,13 +67,23 @@ fn a_small_module(rt: HostRuntime) {
 
 #[test]
 fn too_deep(rt: HostRuntime) {
-    let answer = whole::<Brand>(rt.alloc(), "M DEFINITIONS ::= BEGIN END", 3, Blank::new(1));
+    let answer = whole::<Brand>(
+        rt.alloc(),
+        &Probe::new("M DEFINITIONS ::= BEGIN END"),
+        3,
+        Blank::new(1),
+    );
     assert_eq!(rt; answer.err(), Some(MatchFault::TooDeep));
 }
 
 #[test]
 fn a_number(rt: HostRuntime) {
-    let answer = of_rule::<Brand>(rt.alloc(), "-5", RuleId::new(INTEGER_VALUE), Blank::new(1));
+    let answer = of_rule::<Brand>(
+        rt.alloc(),
+        &Probe::new("-5"),
+        RuleId::new(INTEGER_VALUE),
+        Blank::new(1),
+    );
     let table = answer.ok();
     assert!(rt; table.is_some());
     if let Some(table) = table {
@@ -114,11 +129,11 @@ fn sizes_in_sizes(rt: HostRuntime) -> Result<(), Fail> {
         "SIZE(",
         "\nEND",
     )?;
-    let answer = whole::<Brand>(alloc, text.as_str(), 512, Blank::new(1));
+    let answer = whole::<Brand>(alloc, &Probe::new(text.as_str()), 512, Blank::new(1));
     assert!(rt; fails(answer, RuleId::new(ASN_SPEC)));
     let text = nested(alloc, "SEQUENCE { a INTEGER (", "SIZE(", "")?;
     let rule = RuleId::new(ASN1_TYPE);
-    let answer = of_rule::<Brand>(alloc, text.as_str(), rule, Blank::new(1));
+    let answer = of_rule::<Brand>(alloc, &Probe::new(text.as_str()), rule, Blank::new(1));
     assert!(rt; fails(answer, rule));
     Ok(())
 }

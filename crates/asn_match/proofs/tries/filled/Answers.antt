@@ -3,7 +3,7 @@ use Rattle.asn_rules.specs.Expression.{rule}
 use Rattle.asn_rules.specs.Grammar.{rules_of}
 use Rattle.asn_match.proofs.Bound.{all_looks, looks_paid}
 use Rattle.asn_match.proofs.Tables.{deep_of, flat_of}
-use Rattle.asn_match.proofs.tries.tried.Goals as goal
+use Rattle.asn_match.proofs.tries.filled.Goals as goal
 
 pub returns-in-Ok-clause-flat : goal.returns-in-Ok-clause-flat
 returns-in-Ok-clause-flat g c =
@@ -21,3 +21,6 @@ returns-in-Err-clause-looks g c = all_looks c.args.grammar c.args.text.now c.arg
 
 pub returns-in-Ok-clause-paid : goal.returns-in-Ok-clause-paid
 returns-in-Ok-clause-paid g c = looks_paid (rules_of c.args.grammar) c.args.text.now c.args.rule.number 0 _ _ _ _ c.in-Ok.ensures.kept c.in-Ok.ensures.spent
+
+pub returns-in-Ok-clause-kept : goal.returns-in-Ok-clause-kept
+returns-in-Ok-clause-kept g c = (c.in-Ok.ensures.kept.holds, record { all = c.in-Ok.ensures.kept.tried })
