@@ -132,10 +132,7 @@ impl StructLikeFieldValueCalls for StructLikeFieldValue {
     fn into_value(self) -> ASN1Value
         ensures { result ≡ behind self }
     {
-        match self {
-            StructLikeFieldValue::Explicit(value) => value.into_inner(),
-            StructLikeFieldValue::Implicit(value) => value.into_inner(),
-        }
+        self.into_held()
     }
 }
 

@@ -8,10 +8,11 @@ use Rattle.asn_names.specs.Definitions.{Definitions, last_named}
 use Rattle.asn_names.specs.Laws.{FaultsStand}
 use Rattle.asn_names.specs.Needed.{AreJudged, stands_as}
 use Rattle.asn_check.specs.Needed.{IsWarned, for_fault, for_several, warning_of, DueAreWarned, WarnsOfFaults}
-use Rattle.asn_check.specs.Warnings.{Warning, AreWarnings, IsDue, of_its_fault, of_several, warning, kind_of}
+use Rattle.asn_check.specs.Warnings.{Warning, AreWarnings, IsDue, of_its_fault, of_several, warning, warning_for}
 
-told_alike : (name : List ℕ) (f : Warned) → warning_of name (stands_as f) ≡ warning name (kind_of f)
+told_alike : (name : List ℕ) (f : Warned) → warning_of name (stands_as f) ≡ warning_for name f
 told_alike name warned.MissingDependency = refl
+told_alike name warned.NotYetInplemented = refl
 
 there : (o : Option ToplevelDefinition) → is_some o ≡ true → (d : ToplevelDefinition) × (o ≡ Some d)
 there None e = absurd cc
@@ -20,14 +21,14 @@ there (Some d) e = (d, refl)
 module _ (stand : FaultsStand) (defs : Definitions) (judged : AreJudged defs) where
   to : {w : Warning} → IsDue defs w → IsWarned defs w
   to (of_its_fault name d f is e) =
-      let fault = (stand defs judged.basic name d is (judged.acyclic name d is) (judged.ordered name d is) (stands_as f)).1 (f, e, refl) in
+      let fault = (stand defs judged.basic name d is (judged.unchanged name d is) (judged.acyclic name d is) (judged.ordered name d is) (stands_as f)).1 (f, e, refl) in
       subst (IsWarned defs) (told_alike name f) (for_fault name (stands_as f) (record { defined = ap is_some is; fault = fault }))
   to (of_several name is) = for_several name is
 
   from : {w : Warning} → IsWarned defs w → IsDue defs w
   from (for_fault name k on) =
       let d = there (last_named defs name) on.defined in
-      let found = (stand defs judged.basic name d.0 d.1 (judged.acyclic name d.0 d.1) (judged.ordered name d.0 d.1) k).0 on.fault in
+      let found = (stand defs judged.basic name d.0 d.1 (judged.unchanged name d.0 d.1) (judged.acyclic name d.0 d.1) (judged.ordered name d.0 d.1) k).0 on.fault in
       subst (IsDue defs) (sym (ap (warning_of name) found.2 ∙ told_alike name found.0)) (of_its_fault name d.0 found.0 d.1 found.1)
   from (for_several name is) = of_several name is
 

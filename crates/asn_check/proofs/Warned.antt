@@ -1,6 +1,6 @@
 -- The warnings name by name are exactly those that are due, in order.
-use Rattle.std.proofs.Common.{◌≡◌, ◌⊎◌, inl, inr, ℕ, zero, suc, ◌<◌, List, [], ◌∷◌, ◌++◌, map, length, get_or, Bool, true, false, Option, Some, None, refl, sym, ap, ◌∙◌, subst, arith}
-use Rattle.std.specs.Prelude.{count_by, nat_lt, if◌then◌else◌}
+use Rattle.std.proofs.Common.{◌≡◌, inl, inr, ℕ, zero, suc, List, [], ◌∷◌, ◌++◌, map, Bool, true, false, Option, Some, None, Bor, refl, sym, ap, ◌∙◌, subst, arith}
+use Rattle.std.specs.Prelude.{nat_lt, if◌then◌else◌}
 use Rattle.std.specs.Cmp.Lexicographic.{slice_cmp}
 use Rattle.std.specs.List.{All, AllByRecursion, AllPairs, Contains}
 use Rattle.std.specs.List.Sorted.{IsStrictlySortedBy}
@@ -11,16 +11,16 @@ use Rattle.std.proofs.lemmas.List.Kept.{AllPairs-cons}
 use Rattle.std.proofs.lemmas.Slice.Eq.{bytes_eq-Decides}
 use Rattle.asn_tree.specs.declared.definitions.ToplevelDefinition.{ToplevelDefinition}
 use Rattle.asn_faults.specs.declared.errors.LinkerErrorType.TheVariants as kind
-use Rattle.asn_check.specs.Warnings.{Warning, warning, kind_of, IsDue, of_its_fault, of_several, IsBelow, Precedes, AreWarnings, of_fault, of_duplicate, fault_at, fault_on, warnings_on, warnings_of}
+use Rattle.asn_check.specs.KeptMeaning.{WarningsAreDue}
+use Rattle.asn_check.specs.Warnings.{Warning, warning, warning_for, IsDue, of_its_fault, of_several, IsBelow, Precedes, AreWarnings, of_fault, of_duplicate, fault_at, fault_on, warnings_on, warnings_of}
 use Rattle.asn_names.specs.declared.faults.Fault.{Fault}
-use Rattle.asn_names.specs.declared.faults.Fault.TheVariants.{MissingDependency}
-use Rattle.asn_names.specs.Definitions.{Definitions, Module, definitions_of, is_duplicate, is_named, last_named, name_of}
+use Rattle.asn_names.specs.declared.faults.Fault.TheVariants.{MissingDependency, NotYetInplemented}
+use Rattle.asn_names.specs.Definitions.{Definitions, IsStanding, is_duplicate, is_named, last_named, name_of}
 use Rattle.asn_names.specs.Faults.{fault_of}
 use Rattle.asn_names.specs.Index.{place_in}
 use Rattle.asn_names.specs.declared.names.LastPlace.{LastPlace}
-use Rattle.asn_names.specs.Linked.{AreLinked, IsDefined, MayBeDropped}
+use Rattle.asn_names.specs.Linked.{IsDefined}
 use Rattle.asn_names.proofs.LastPlaces.{Tells, tells}
-use Rattle.asn_names.proofs.Linked.{none_dropped}
 use Rattle.asn_names.proofs.Seen.{or_else}
 
 -- ---- lists in order
@@ -44,21 +44,26 @@ one_pair R x = AllPairs-cons R x [] (All-nil (R x)) (no_pairs R)
 abbrev IsOn : List ℕ → Warning → Type 0
 IsOn name w = w.name ≡ Some name
 
-no_duplicate : (f : Fault) → kind_of f ≡ kind.Duplicate → ⊥
-no_duplicate MissingDependency e = cc
+no_duplicate : (name : List ℕ) (f : Fault) → (warning_for name f).kind ≡ kind.Duplicate → ⊥
+no_duplicate name MissingDependency e = cc
+no_duplicate name NotYetInplemented e = cc
+
+told_of : (name : List ℕ) (f : Fault) → IsOn name (warning_for name f)
+told_of name MissingDependency = refl
+told_of name NotYetInplemented = refl
 
 fault_pairs : (name : List ℕ) (o : Option Fault) (b : Bool) → AllPairs Precedes (of_fault name o ++ of_duplicate name b)
 fault_pairs name None false = no_pairs Precedes
 fault_pairs name None true = one_pair Precedes (warning name kind.Duplicate)
-fault_pairs name (Some f) false = one_pair Precedes (warning name (kind_of f))
+fault_pairs name (Some f) false = one_pair Precedes (warning_for name f)
 fault_pairs name (Some f) true =
     let last = warning name kind.Duplicate in
-    let first = warning name (kind_of f) in
-    AllPairs-cons Precedes first (last ∷ []) (All-cons (Precedes first) last [] (inr (refl, no_duplicate f, refl)) (All-nil (Precedes first))) (one_pair Precedes last)
+    let first = warning_for name f in
+    AllPairs-cons Precedes first (last ∷ []) (All-cons (Precedes first) last [] (inr (told_of name f, no_duplicate name f, refl)) (All-nil (Precedes first))) (one_pair Precedes last)
 
 fault_on_name : (name : List ℕ) (o : Option Fault) → All (IsOn name) (of_fault name o)
 fault_on_name name None = All-nil (IsOn name)
-fault_on_name name (Some f) = All-cons (IsOn name) (warning name (kind_of f)) [] refl (All-nil (IsOn name))
+fault_on_name name (Some f) = All-cons (IsOn name) (warning_for name f) [] (told_of name f) (All-nil (IsOn name))
 
 duplicate_on_name : (name : List ℕ) (b : Bool) → All (IsOn name) (of_duplicate name b)
 duplicate_on_name name false = All-nil (IsOn name)
@@ -78,7 +83,7 @@ module _ (defs : Definitions) where
     where
       due : (d : ToplevelDefinition) (o : Option Fault) → last_named defs name ≡ Some d → fault_of defs d ≡ o → All (IsDue defs) (of_fault name o)
       due d None is e = All-nil (IsDue defs)
-      due d (Some f) is e = All-cons (IsDue defs) (warning name (kind_of f)) [] (of_its_fault name d f is e) (All-nil (IsDue defs))
+      due d (Some f) is e = All-cons (IsDue defs) (warning_for name f) [] (of_its_fault name d f is e) (All-nil (IsDue defs))
 
       at : (o : Option ToplevelDefinition) → last_named defs name ≡ o → All (IsDue defs) (of_fault name (fault_at defs o))
       at None is = All-nil (IsDue defs)
@@ -92,9 +97,9 @@ module _ (defs : Definitions) where
   unfolding warnings_on
   due_on name = All-append (IsDue defs) (of_fault name (fault_on defs name)) (of_duplicate name (is_duplicate defs name)) (due_of_fault name) (due_of_duplicate name (is_duplicate defs name) refl)
 
-  fault_there : (name : List ℕ) (d : ToplevelDefinition) (f : Fault) → last_named defs name ≡ Some d → fault_of defs d ≡ Some f → Contains (warnings_on defs name) (warning name (kind_of f))
+  fault_there : (name : List ℕ) (d : ToplevelDefinition) (f : Fault) → last_named defs name ≡ Some d → fault_of defs d ≡ Some f → Contains (warnings_on defs name) (warning_for name f)
   unfolding warnings_on
-  fault_there name d f is e = subst (λ o. Contains (of_fault name o ++ of_duplicate name (is_duplicate defs name)) (warning name (kind_of f))) (sym (ap (fault_at defs) is ∙ e)) (0, omega arith, refl)
+  fault_there name d f is e = subst (λ o. Contains (of_fault name o ++ of_duplicate name (is_duplicate defs name)) (warning_for name f)) (sym (ap (fault_at defs) is ∙ e)) (0, omega arith, refl)
 
   duplicate_there : (name : List ℕ) → is_duplicate defs name ≡ true → Contains (warnings_on defs name) (warning name kind.Duplicate)
   unfolding warnings_on
@@ -166,9 +171,17 @@ name_there name (x ∷ ds) (d, is) = go (last_named ds name) refl (name_there na
     go None e later h = here (is_named name x) refl h
     go (Some y) e later h = let c = later (y, e) in (suc c.0, omega (arith, c.1), c.2)
 
-pub are_due : (reading : List Module) (linked : Definitions) → AreLinked reading linked → AreWarnings (definitions_of reading) (warnings_of (definitions_of reading) (map name_of linked))
-are_due reading linked are = are_warnings (definitions_of reading) (map name_of linked) are.ascending (λ name defined. name_there name linked (stands name defined.0 (are.kept name defined.0 defined.1)))
-  where
-    stands : (name : List ℕ) (d : ToplevelDefinition) → IsDefined linked name ⊎ MayBeDropped d → IsDefined linked name
-    stands name d (inl s) = s
-    stands name d (inr h) = absurd (none_dropped d h)
+pub are_due : (defs standing : Definitions) → IsStanding defs standing → AreWarnings defs (warnings_of defs (map name_of standing))
+are_due defs standing are = are_warnings defs (map name_of standing) are.ascending (λ name defined. name_there name standing (defined.0, are.each name ∙ defined.1))
+
+each_named : (ds : List (Bor ToplevelDefinition)) → map (λ d. name_of d.now) ds ≡ map name_of (map (λ d. d.now) ds)
+each_named [] = refl
+each_named (d ∷ ds) = ap (λ names. name_of d.now ∷ names) (each_named ds)
+
+-- what is warned of, name by name, over definitions that stand
+pub judged : WarningsAreDue → (defs names : Definitions) (ds slice : List (Bor ToplevelDefinition)) (ws : List Warning) → names ≡ defs → slice ≡ ds → IsStanding names (map (λ d. d.now) ds) → ws ≡ warnings_of names (map (λ d. name_of d.now) slice) → AreWarnings defs ws
+judged law defs names ds slice ws is same standing e =
+    subst (λ z. AreWarnings z ws) is
+    (subst (AreWarnings names)
+    (sym (e ∙ ap (λ xs. warnings_of names (map (λ d. name_of d.now) xs)) same ∙ ap (warnings_of names) (each_named ds)))
+    (law names (map (λ d. d.now) ds) standing))

@@ -1,5 +1,5 @@
 -- What linking keeps of the meaning of definitions.
-use Rattle.std.specs.Prelude.{◌≡◌, ◌↔◌, ℕ, List, map, Option, Some, None}
+use Rattle.std.specs.Prelude.{◌≡◌, ◌↔◌, ℕ, List, map, Some, None}
 use Rattle.asn_tree.specs.declared.definitions.ToplevelDefinition.TheVariants.{TypeDef}
 use Rattle.asn_tree.specs.declared.definitions.ToplevelTypeDefinition.{ToplevelTypeDefinition}
 use Rattle.asn_tree.specs.declared.types.ASN1Type.{ASN1Type}
@@ -9,22 +9,20 @@ use Rattle.asn_meaning.specs.Definitions.{type_named}
 use Rattle.asn_meaning.specs.Plain.{IsPlain}
 use Rattle.asn_meaning.specs.Scopes.{Empty}
 use Rattle.asn_meaning.specs.ValueTrees.{ValueTree}
-use Rattle.asn_names.specs.Definitions.{Definitions, Module, definitions_of, name_of}
+use Rattle.asn_names.specs.Definitions.{Definitions, IsStanding, Module, definitions_of, name_of}
 use Rattle.asn_names.specs.Faults.{IsClean}
-use Rattle.asn_names.specs.Given.{given_definitions}
 use Rattle.asn_names.specs.Linked.{AreLinked}
 
 -- The second type accepts over its definitions exactly the value trees that the first accepts over its own.
 abbrev pub AcceptsAlike : Definitions → ASN1Type → Definitions → ASN1Type → Type 0
 AcceptsAlike defs ty others other = (t : ValueTree) → Accepts defs Empty ty t ↔ Accepts others Empty other t
 
--- A type definition stands for the name among the linked definitions. It accepts there exactly the value trees that this
--- type accepts in the reading, and is in plain form exactly where this type is.
+-- A type definition stands for the name among the linked definitions. It is in plain form there, and accepts there exactly the
+-- value trees that this type accepts in the reading.
 abbrev pub Meant : List Module → Definitions → List ℕ → ASN1Type → Type 0
 Meant reading linked name ty =
-    (e : ToplevelTypeDefinition) × (type_named linked name ≡ Some e)
+    (e : ToplevelTypeDefinition) × (type_named linked name ≡ Some e) × IsPlain linked e.ty
     × AcceptsAlike (definitions_of reading) ty linked e.ty
-    × (IsPlain (definitions_of reading) ty ↔ IsPlain linked e.ty)
 
 -- So it is with each clean type definition without parameters.
 abbrev pub KeepsMeaning : List Module → Definitions → Type 0
@@ -36,15 +34,9 @@ KeepsMeaning reading linked =
 abbrev pub LinkedKeepsMeaning : Type 0
 LinkedKeepsMeaning = (reading : List Module) (linked : Definitions) → AreLinked reading linked → KeepsMeaning reading linked
 
--- The warnings over the definitions as linking gives them are those over the reading's.
-abbrev pub WarningsStay : Type 0
-WarningsStay = (reading : List Module) (names : List (List ℕ)) → warnings_of (given_definitions reading) names ≡ warnings_of (definitions_of reading) names
-
--- The warnings on the names of the linked definitions are those of the reading.
+-- The warnings name by name, over the definitions that stand, are exactly those that are due, in order.
 abbrev pub WarningsAreDue : Type 0
-WarningsAreDue =
-    (reading : List Module) (linked : Definitions) → AreLinked reading linked →
-    AreWarnings (definitions_of reading) (warnings_of (definitions_of reading) (map name_of linked))
+WarningsAreDue = (defs standing : Definitions) → IsStanding defs standing → AreWarnings defs (warnings_of defs (map name_of standing))
 
 -- No two lists are the warnings over the same definitions.
 abbrev pub OneListOfWarnings : Type 0

@@ -1,17 +1,12 @@
 -- Warnings as the relation of needs and faults has them, over the whole notation.
-use Rattle.std.specs.Prelude.{◌≡◌, ◌↔◌, ℕ, List, Some, true}
+use Rattle.std.specs.Prelude.{◌≡◌, ◌↔◌, ℕ, List, true}
 use Rattle.std.specs.List.{Contains}
-use Rattle.asn_faults.specs.declared.errors.GrammarErrorType.{GrammarErrorType}
 use Rattle.asn_faults.specs.declared.errors.GrammarErrorType.TheVariants as grammar
 use Rattle.asn_faults.specs.declared.errors.LinkerErrorType.TheVariants as kind
 use Rattle.asn_needs.specs.Faults.{Fault, Cycle, Argument, MissingDependency, NotYetInplemented, SyntaxMismatch, LinkerError, InvalidConstraintsError, IsFaultOn}
 use Rattle.asn_names.specs.Definitions.{Definitions, is_duplicate}
 use Rattle.asn_names.specs.Needed.{AreJudged}
-use Rattle.asn_check.specs.Warnings.{Warning, IsDue, warning}
-
--- a warning of a refusal of this kind
-abbrev pub refused : List ℕ → GrammarErrorType → Warning
-refused name k = record { name = Some name; kind = kind.Unknown; grammar = Some k }
+use Rattle.asn_check.specs.Warnings.{Warning, IsDue, refused, warning}
 
 -- the warning that tells a fault
 abbrev pub warning_of : List ℕ → Fault → Warning

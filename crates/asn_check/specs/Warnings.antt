@@ -6,11 +6,12 @@ use Rattle.std.specs.Ordering.{nat_cmp}
 use Rattle.std.specs.declared.cmp.Ordering.TheVariants.{Less}
 use Rattle.asn_tree.specs.declared.definitions.ToplevelDefinition.{ToplevelDefinition}
 use Rattle.asn_faults.specs.declared.errors.GrammarErrorType.{GrammarErrorType}
+use Rattle.asn_faults.specs.declared.errors.GrammarErrorType.TheVariants as grammar
 use Rattle.asn_faults.specs.declared.errors.LinkerError.{LinkerError}
 use Rattle.asn_faults.specs.declared.errors.LinkerErrorType.{LinkerErrorType}
 use Rattle.asn_faults.specs.declared.errors.LinkerErrorType.TheVariants as kind
 use Rattle.asn_names.specs.declared.faults.Fault.{Fault}
-use Rattle.asn_names.specs.declared.faults.Fault.TheVariants.{MissingDependency}
+use Rattle.asn_names.specs.declared.faults.Fault.TheVariants.{MissingDependency, NotYetInplemented}
 use Rattle.asn_names.specs.Definitions.{Definitions, is_duplicate, last_named}
 use Rattle.asn_names.specs.Faults.{fault_of}
 
@@ -26,15 +27,21 @@ said_by w = record { name = w.pdu; kind = w.kind; grammar = w.grammar }
 abbrev pub warning : List ℕ → LinkerErrorType → Warning
 warning name k = record { name = Some name; kind = k; grammar = None }
 
-abbrev pub kind_of : Fault → LinkerErrorType
-kind_of MissingDependency = kind.MissingDependency
+-- a warning of a refusal of this kind
+abbrev pub refused : List ℕ → GrammarErrorType → Warning
+refused name k = record { name = Some name; kind = kind.Unknown; grammar = Some k }
+
+-- the warning that tells a fault of the definition that stands for the name
+abbrev pub warning_for : List ℕ → Fault → Warning
+warning_for name MissingDependency = warning name kind.MissingDependency
+warning_for name NotYetInplemented = refused name grammar.NotYetInplemented
 
 -- ---- which warnings are due
 
 -- A warning is due of the fault that stands in the definition that stands for a name, and of Duplicate where several
 -- definitions have the name. No other is.
 pub data IsDue (defs : Definitions) : Warning → Type 0 where
-  of_its_fault : (name : List ℕ) (d : ToplevelDefinition) (f : Fault) → last_named defs name ≡ Some d → fault_of defs d ≡ Some f → IsDue defs (warning name (kind_of f))
+  of_its_fault : (name : List ℕ) (d : ToplevelDefinition) (f : Fault) → last_named defs name ≡ Some d → fault_of defs d ≡ Some f → IsDue defs (warning_for name f)
   of_several : (name : List ℕ) → is_duplicate defs name ≡ true → IsDue defs (warning name kind.Duplicate)
 
 -- the first name is below the second in byte order
@@ -56,7 +63,7 @@ pub record AreWarnings (defs : Definitions) (warnings : List Warning) : Type 0 w
 -- of the fault of the definition that stands for the name, where there is one
 abbrev pub of_fault : List ℕ → Option Fault → List Warning
 of_fault name None = []
-of_fault name (Some f) = warning name (kind_of f) ∷ []
+of_fault name (Some f) = warning_for name f ∷ []
 
 abbrev pub of_duplicate : List ℕ → Bool → List Warning
 of_duplicate name several = if several then warning name kind.Duplicate ∷ [] else []

@@ -1,5 +1,6 @@
-//! Copies of a reading's definitions with their numbers and their module's tagging environment.
+//! Copies of a reading's definitions: as they are read, and with their numbers and their module's tagging environment.
 
+ghost use Rattle.asn_names.specs.Definitions.{definitions_of};
 ghost use Rattle.asn_names.specs.Given.{given, given_definitions, given_from};
 ghost use Rattle.std.specs.Prelude.{◌≡◌, ◌++◌, IfOk, OnOk};
 
@@ -54,6 +55,31 @@ pub(crate) fn give_reading(alloc: Global, reading: &Reading) -> Mem<List<Topleve
             header.tagging_environment,
             home,
         )?;
+    }
+    Ok(all)
+}
+
+/// Adds copies of definitions, in their order.
+fn add_copies(
+    alloc: Global,
+    all: &mut List<ToplevelDefinition>,
+    definitions: &[ToplevelDefinition],
+) -> Mem<()>
+    ensures { OnOk result (all.new ≡ all.old ++ definitions.now) }
+{
+    for definition in definitions {
+        all.add(copy_toplevel_definition(alloc, definition)?)?;
+    }
+    Ok(())
+}
+
+/// Copies of all definitions of a reading, in order, as they are read.
+pub(crate) fn copy_definitions(alloc: Global, reading: &Reading) -> Mem<List<ToplevelDefinition>>
+    ensures { IfOk result (λ ds. ds ≡ definitions_of reading.now) }
+{
+    let mut all = List::new(alloc);
+    for module in reading.as_slice() {
+        add_copies(alloc, &mut all, module.1.as_slice())?;
     }
     Ok(all)
 }

@@ -1,10 +1,11 @@
 //! What linking keeps, as laws: each is the contract of a function that does nothing but name the laws below it.
 
-ghost use Rattle.asn_check.specs.KeptMeaning.{LinkedKeepsMeaning, OneListOfWarnings, WarningsAreDue, WarningsStay};
+ghost use Rattle.asn_check.specs.KeptMeaning.{LinkedKeepsMeaning, OneListOfWarnings, WarningsAreDue};
 ghost use Rattle.asn_check.specs.Needed.{DueAreWarned};
 
 use asn_meaning::{retagged_types_mean_the_same, tags_keep_plain_form};
-use asn_names::{faults_stand, last_is_given, linked_differ_in_tags, retagging_keeps_names};
+use asn_names::{faults_stand, linked_differ_in_tags};
+use asn_unchanged::unchanged_is_plain;
 
 /// The linked definitions of a reading keep its meaning.
 pub fn linked_keeps_meaning()
@@ -13,17 +14,10 @@ pub fn linked_keeps_meaning()
     linked_differ_in_tags();
     retagged_types_mean_the_same();
     tags_keep_plain_form();
+    unchanged_is_plain();
 }
 
-/// The warnings over the definitions as linking gives them are those over the reading's.
-pub fn warnings_stay()
-    ensures { WarningsStay }
-{
-    last_is_given();
-    retagging_keeps_names();
-}
-
-/// The warnings on the names of the linked definitions are those of the reading: exactly those that are due, in order.
+/// The warnings name by name, over the definitions that stand, are exactly those that are due, in order.
 pub fn warnings_are_due()
     ensures { WarningsAreDue }
 {}

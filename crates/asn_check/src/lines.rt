@@ -1,39 +1,13 @@
 //! The listing of a linked answer.
 
-ghost use Rattle.asn_check.specs.Listing.{listing_of, name_text, warning_line, warning_lines};
-ghost use Rattle.asn_tree.specs.Listing.{definition_line, definition_lines, kind_text};
+ghost use Rattle.asn_check.specs.Listing.{fault_text, grammar_text, kind_text, listing_of, name_text, warning_line, warning_lines};
 ghost use Rattle.std.specs.Prelude.{◌≡◌, ◌++◌, IfOk, OnOk};
 
 use crate::linked::Linked;
-use crate::types::write_type;
+use asn_listing::write_definitions;
 use asn_memory::{Mem, Text};
-use asn_tree::{LinkerError, LinkerErrorType, ToplevelDefinition};
+use asn_tree::{GrammarErrorType, LinkerError, LinkerErrorType};
 use std::alloc::Global;
-
-fn write_definition(alloc: Global, out: &mut Text, definition: &ToplevelDefinition) -> Mem<()>
-    ensures { OnOk result (out.new ≡ out.old ++ definition_line definition.now) }
-{
-    match definition {
-        ToplevelDefinition::TypeDef(definition) => {
-            out.push_str("type ")?;
-            out.push_str(definition.name.as_str())?;
-            out.push_str(" ::= ")?;
-            write_type(alloc, out, &definition.ty)?;
-            out.push_str("\n")
-        }
-        ToplevelDefinition::Value(_) => Ok(()),
-        ToplevelDefinition::Information(_) => Ok(()),
-    }
-}
-
-fn write_definitions(alloc: Global, out: &mut Text, definitions: &[ToplevelDefinition]) -> Mem<()>
-    ensures { OnOk result (out.new ≡ out.old ++ definition_lines definitions.now) }
-{
-    for definition in definitions {
-        write_definition(alloc, out, definition)?;
-    }
-    Ok(())
-}
 
 /// The word of a kind of warnings.
 fn kind_word(kind: LinkerErrorType) -> &'static str
@@ -46,6 +20,29 @@ fn kind_word(kind: LinkerErrorType) -> &'static str
         LinkerErrorType::Cycle => "Cycle",
         LinkerErrorType::Argument => "Argument",
         LinkerErrorType::Duplicate => "Duplicate",
+    }
+}
+
+/// The word of a kind of refusals.
+fn grammar_word(kind: GrammarErrorType) -> &'static str
+    ensures { result.now ≡ grammar_text kind }
+{
+    match kind {
+        GrammarErrorType::UnpackingError => "UnpackingError",
+        GrammarErrorType::LinkerError => "LinkerError",
+        GrammarErrorType::PerVisibleConstraintError => "PerVisibleConstraintError",
+        GrammarErrorType::NotYetInplemented => "NotYetInplemented",
+        GrammarErrorType::SyntaxMismatch => "SyntaxMismatch",
+    }
+}
+
+/// The word of the fault that a warning tells.
+fn fault_word(kind: LinkerErrorType, refusal: Option<GrammarErrorType>) -> &'static str
+    ensures { result.now ≡ fault_text kind refusal }
+{
+    match refusal {
+        None => kind_word(kind),
+        Some(refusal) => grammar_word(refusal),
     }
 }
 
@@ -62,7 +59,7 @@ fn write_warning(out: &mut Text, warning: &LinkerError) -> Mem<()>
     ensures { OnOk result (out.new ≡ out.old ++ warning_line warning.now) }
 {
     out.push_str("warning ")?;
-    out.push_str(kind_word(warning.kind))?;
+    out.push_str(fault_word(warning.kind, warning.grammar))?;
     out.push_str(" ")?;
     write_name(out, &warning.pdu)?;
     out.push_str("\n")

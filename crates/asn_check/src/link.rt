@@ -2,20 +2,20 @@
 
 ghost use Rattle.asn_check.specs.KeptMeaning.{KeepsMeaning};
 ghost use Rattle.asn_check.specs.Needed.{WarnsOfFaults};
-ghost use Rattle.asn_check.specs.Warnings.{AreWarnings, said_by, warnings_of};
-ghost use Rattle.asn_names.specs.Definitions.{definitions_of, IsStanding, name_of};
+ghost use Rattle.asn_check.specs.Warnings.{AreWarnings, said_by};
+ghost use Rattle.asn_names.specs.Definitions.{definitions_of, IsStanding};
 ghost use Rattle.asn_names.specs.Given.{given_definitions};
 ghost use Rattle.asn_names.specs.Linked.{AreLinked};
 ghost use Rattle.std.specs.Prelude.{◌≡◌, IfOk, map};
 
-use crate::given::give_reading;
-use crate::laws::{due_are_warned, linked_keeps_meaning, warnings_are_due, warnings_stay};
+use crate::given::{copy_definitions, give_reading};
+use crate::laws::{due_are_warned, linked_keeps_meaning, warnings_are_due};
 use crate::linked::Linked;
 use crate::warnings::warnings_on_all;
 use asn_copy_trees::{copy_module_reference, copy_toplevel_definition};
 use asn_memory::{List, Mem};
 use asn_names::{Names, standing_are_linked};
-use asn_tree::{ModuleReference, Reading, ToplevelDefinition};
+use asn_tree::{LinkerError, ModuleReference, Reading, ToplevelDefinition};
 use std::alloc::Global;
 
 /// Copies of these definitions, in their order.
@@ -40,17 +40,37 @@ fn copy_headers(alloc: Global, reading: &Reading) -> Mem<List<ModuleReference>>
     Ok(headers)
 }
 
-/// The parts of a linked answer, the warnings judged over the definitions as they are given.
-fn link_parts(alloc: Global, reading: &Reading) -> Mem<Linked>
-    ensures modules { IfOk result (λ linked. linked.modules ≡ map (λ m. m.0) reading.now) }
-    ensures definitions { IfOk result (λ linked. IsStanding (given_definitions reading.now) linked.definitions) }
-    ensures warnings { IfOk result (λ linked. map said_by linked.warnings ≡ warnings_of (given_definitions reading.now) (map name_of linked.definitions)) }
+/// The warnings over the definitions of a reading, as they are read.
+fn judge(alloc: Global, reading: &Reading) -> Mem<List<LinkerError>>
+    ensures { IfOk result (λ warnings. AreWarnings (definitions_of reading.now) (map said_by warnings)) }
+{
+    warnings_are_due();
+    let definitions = copy_definitions(alloc, reading)?;
+    let names = Names::new(alloc, &definitions)?;
+    let standing = names.standing(alloc)?;
+    let warnings = warnings_on_all(alloc, &names, standing.as_slice())?;
+    Ok(warnings)
+}
+
+/// The definitions of a reading that stand, as linking gives them.
+fn stand(alloc: Global, reading: &Reading) -> Mem<List<ToplevelDefinition>>
+    ensures { IfOk result (λ definitions. IsStanding (given_definitions reading.now) definitions) }
 {
     let given = give_reading(alloc, reading)?;
     let names = Names::new(alloc, &given)?;
     let standing = names.standing(alloc)?;
     let definitions = copy_each(alloc, standing.as_slice())?;
-    let warnings = warnings_on_all(alloc, &names, definitions.as_slice())?;
+    Ok(definitions)
+}
+
+/// The parts of a linked answer.
+fn link_parts(alloc: Global, reading: &Reading) -> Mem<Linked>
+    ensures modules { IfOk result (λ linked. linked.modules ≡ map (λ m. m.0) reading.now) }
+    ensures definitions { IfOk result (λ linked. IsStanding (given_definitions reading.now) linked.definitions) }
+    ensures warnings { IfOk result (λ linked. AreWarnings (definitions_of reading.now) (map said_by linked.warnings)) }
+{
+    let warnings = judge(alloc, reading)?;
+    let definitions = stand(alloc, reading)?;
     let modules = copy_headers(alloc, reading)?;
     Ok(Linked {
         modules,
@@ -59,9 +79,13 @@ fn link_parts(alloc: Global, reading: &Reading) -> Mem<Linked>
     })
 }
 
-/// The linked answer of a reading. In this part of the notation linking changes no type: each definition is given as
-/// read, with its numbers and its module's tagging environment. It warns of names without a definition of a type, and of
-/// names that several definitions have; where it judges all definitions whole, these are all the faults that stand.
+/// The linked answer of a reading: each definition is given as read, with its numbers and its module's tagging environment. It
+/// warns of each definition that linking would change, for a time; of each other one in which a type reference has no definition
+/// of a type; and of names that several definitions have. Where it judges all definitions whole, these are all the faults that stand.
+///
+/// # Errors
+///
+/// Want of memory alone.
 pub fn link_reading(alloc: Global, reading: &Reading) -> Mem<Linked>
     ensures modules { IfOk result (λ linked. linked.modules ≡ map (λ m. m.0) reading.now) }
     ensures definitions { IfOk result (λ linked. AreLinked reading.now linked.definitions) }
@@ -71,8 +95,6 @@ pub fn link_reading(alloc: Global, reading: &Reading) -> Mem<Linked>
 {
     standing_are_linked();
     linked_keeps_meaning();
-    warnings_stay();
-    warnings_are_due();
     due_are_warned();
     let linked = link_parts(alloc, reading)?;
     Ok(linked)

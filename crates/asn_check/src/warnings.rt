@@ -1,13 +1,13 @@
 //! The warnings of a linked answer.
 
-ghost use Rattle.asn_check.specs.Warnings.{fault_on, kind_of, of_duplicate, of_fault, said_by, warning, warnings_of, warnings_on};
+ghost use Rattle.asn_check.specs.Warnings.{fault_on, of_duplicate, of_fault, refused, said_by, warning, warning_for, warnings_of, warnings_on};
 ghost use Rattle.asn_names.specs.Definitions.{name_of};
 ghost use Rattle.std.specs.Prelude.{◌≡◌, ◌++◌, IfOk, OnOk, map};
 
 use asn_copy_trees::copy_text;
 use asn_memory::{List, Mem, Text};
 use asn_names::{Fault, Names};
-use asn_tree::{LinkerError, LinkerErrorType, ToplevelDefinition};
+use asn_tree::{GrammarErrorType, LinkerError, LinkerErrorType, ToplevelDefinition};
 use std::alloc::Global;
 
 /// A warning of this kind on this name.
@@ -31,12 +31,26 @@ fn details_of(kind: LinkerErrorType) -> &'static str {
     }
 }
 
-/// The kind of the warning that tells a fault.
-fn kind_of_fault(fault: Fault) -> LinkerErrorType
-    ensures { result ≡ kind_of fault }
+/// A warning on this name of a form that is not linked.
+fn refuse(alloc: Global, name: &Text) -> Mem<LinkerError>
+    ensures { IfOk result (λ w. said_by w ≡ refused name.now GrammarErrorType.NotYetInplemented) }
+{
+    let pdu = copy_text(alloc, name)?;
+    Ok(LinkerError {
+        pdu: Some(pdu),
+        details: details_of(LinkerErrorType::Unknown),
+        kind: LinkerErrorType::Unknown,
+        grammar: Some(GrammarErrorType::NotYetInplemented),
+    })
+}
+
+/// The warning that tells a fault of the definition that stands for the name.
+fn warn_of(alloc: Global, name: &Text, fault: Fault) -> Mem<LinkerError>
+    ensures { IfOk result (λ w. said_by w ≡ warning_for name.now fault) }
 {
     match fault {
-        Fault::MissingDependency => LinkerErrorType::MissingDependency,
+        Fault::MissingDependency => warn(alloc, name, LinkerErrorType::MissingDependency),
+        Fault::NotYetInplemented => refuse(alloc, name),
     }
 }
 
@@ -50,18 +64,18 @@ fn warn_of_fault(
     ensures { OnOk result (map said_by warnings.new ≡ map said_by warnings.old ++ of_fault name.now fault) }
 {
     match fault {
-        Some(fault) => warnings.add(warn(alloc, name, kind_of_fault(fault))?),
+        Some(fault) => warnings.add(warn_of(alloc, name, fault)?),
         None => Ok(()),
     }
 }
 
 /// The fault of the definition that stands for the name.
-fn standing_fault(names: &Names<'_>, name: &str) -> Option<Fault>
-    ensures { result ≡ fault_on names.now.definitions.now name.now }
+fn standing_fault(alloc: Global, names: &Names<'_>, name: &str) -> Mem<Option<Fault>>
+    ensures { IfOk result (λ fault. fault ≡ fault_on names.now.definitions.now name.now) }
 {
     match names.last_named(name) {
-        Some(definition) => names.fault(definition),
-        None => None,
+        Some(definition) => names.fault(alloc, definition),
+        None => Ok(None),
     }
 }
 
@@ -91,7 +105,7 @@ fn warn_on(
 ) -> Mem<()>
     ensures { OnOk result (map said_by warnings.new ≡ map said_by warnings.old ++ warnings_on names.now.definitions.now name.now) }
 {
-    let fault = standing_fault(names, name.as_str());
+    let fault = standing_fault(alloc, names, name.as_str())?;
     warn_of_fault(alloc, warnings, name, fault)?;
     let several = names.is_duplicate(name.as_str());
     warn_of_duplicate(alloc, warnings, name, several)
@@ -101,9 +115,9 @@ fn warn_on(
 pub(crate) fn warnings_on_all(
     alloc: Global,
     names: &Names<'_>,
-    definitions: &[ToplevelDefinition],
+    definitions: &[&ToplevelDefinition],
 ) -> Mem<List<LinkerError>>
-    ensures { IfOk result (λ ws. map said_by ws ≡ warnings_of names.now.definitions.now (map name_of definitions.now)) }
+    ensures { IfOk result (λ ws. map said_by ws ≡ warnings_of names.now.definitions.now (map (λ d. name_of d.now) definitions.now)) }
 {
     let mut warnings = List::new(alloc);
     for definition in definitions {

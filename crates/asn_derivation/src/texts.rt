@@ -1,24 +1,26 @@
 //! The node of a whole text.
 
-ghost use Rattle.asn_derivation.specs.Derivation.{IsMatchingErrorBy, IsNodeBy};
+ghost use Rattle.asn_derivation.specs.Derivation.{IsMatchingErrorBy, IsNodeBy, report_of};
 ghost use Rattle.asn_derivation.specs.declared.errors.SpecError.TheVariants as fault;
-ghost use Rattle.asn_rules.specs.Due.{pieces_of};
+ghost use Rattle.asn_rules.specs.Due.{context_of, pieces_of, reason_of};
 ghost use Rattle.asn_rules.specs.Grammar.{rules_of};
 ghost use Rattle.asn_rules.specs.Valid.{Fails, IsDeeper, IsValid};
+ghost use Rattle.asn_text.specs.Report.{IsReport};
 ghost use Rattle.asn_text.specs.declared.report.LexerError.{LexerError as OneError};
-ghost use Rattle.std.specs.Prelude.{◌≡◌, Err, IfOk};
+ghost use Rattle.std.specs.Prelude.{◌≡◌, ◌≤◌, Err, IfOk, length};
 
 use crate::errors::SpecError;
-use asn_rules::{Grammar, MatchFault, Node, RuleId, derive_rule, due_place, names};
+use asn_match::{WholeText, whole_text};
+use asn_rules::{DuePlace, Grammar, MatchFault, Node};
 use asn_text::{LexerError, LexerErrorType, ReportData};
 use std::alloc::Global;
 
-/// The error of a text that the grammar fails on: the place where a module lacks a part, and the reason.
-fn matching_error(grammar: Grammar, source: &str, depth: usize) -> LexerError
-    requires { Fails (rules_of grammar) source.now depth }
-    ensures { IsMatchingErrorBy (rules_of grammar) (pieces_of grammar) source.now depth result }
+/// The error of a text that lacks a part of a module: the place where the part is due, and the reason.
+fn matching_error(source: &str, due: DuePlace) -> LexerError
+    requires module { due.module ≤ length source.now }
+    requires place { due.place ≤ length source.now }
+    ensures { IsReport source.now due.place (context_of due.part due.module due.place) (reason_of due.part) (report_of result.kind) }
 {
-    let due = due_place(grammar, source, depth).unwrap();
     LexerError {
         kind: LexerErrorType::MatchingError(ReportData::at(
             source,
@@ -29,7 +31,8 @@ fn matching_error(grammar: Grammar, source: &str, depth: usize) -> LexerError
     }
 }
 
-/// The node of a whole text by the table of the grammar, or why there is none. It is for the caller to read the node.
+/// The node of a whole text by the table of the grammar, or why there is none. It is for the caller to read the node. All that
+/// the text tries is tried once: the node and the place of an error come from one packrat table.
 ///
 /// # Errors
 ///
@@ -47,16 +50,9 @@ pub fn node_of(
     ensures matching { (e : OneError) → result ≡ Err (fault.Lexer e) → Fails (rules_of grammar) source.now depth × IsMatchingErrorBy (rules_of grammar) (pieces_of grammar) source.now depth e }
     ensures deep { result ≡ Err fault.TooDeep → IsDeeper (rules_of grammar) source.now depth }
 {
-    match derive_rule(
-        alloc,
-        grammar,
-        source,
-        RuleId::new(names::ASN_SPEC),
-        0,
-        depth,
-    ) {
-        Ok(Some(node)) => Ok(node),
-        Ok(None) => Err(SpecError::Lexer(matching_error(grammar, source, depth))),
+    match whole_text(alloc, grammar, source, depth) {
+        Ok(WholeText::Tree(node)) => Ok(node),
+        Ok(WholeText::Lacking(due)) => Err(SpecError::Lexer(matching_error(source, due))),
         Err(MatchFault::TooDeep) => Err(SpecError::TooDeep),
         Err(MatchFault::OutOfMemory) => Err(SpecError::OutOfMemory),
     }

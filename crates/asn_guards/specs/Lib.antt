@@ -1,6 +1,5 @@
 pub mod Lexical
 pub mod Guards
-pub mod Ordered
 pub mod Enumerations
 pub mod Allows
 pub mod Outside

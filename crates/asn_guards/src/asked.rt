@@ -44,8 +44,6 @@ pub enum Guard {
     FitsI128,
     /// They are a whole number from -2^31 to 2^31 - 1.
     FitsI32,
-    /// They are two numbers as [`Guard::FitsI128`] asks, with `..` between them, the first at most the second.
-    IsOrdered,
     /// They are a whole number from 0 to 255.
     FitsU8,
     /// They are the number 2 or 10.

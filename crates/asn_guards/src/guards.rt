@@ -16,7 +16,6 @@ use crate::asked::{ByteClass, Guard};
 use crate::enumerations::numbers_fit;
 use crate::gaps::{behind_gap, next_bare};
 use crate::lexical::is_in_class;
-use crate::ordered::is_ordered;
 use crate::setting_pairs::is_setting;
 
 /// Reserved words, none of which can be the name of a type. A space stands between two that go together.
@@ -138,7 +137,6 @@ pub fn is_allowed(guard: Guard, taken: &[u8]) -> bool
         Guard::FitsU128 => natural_number(taken).is_some(),
         Guard::FitsI128 => whole_number(taken).is_some(),
         Guard::FitsI32 => fits_i32(taken),
-        Guard::IsOrdered => is_ordered(taken),
         Guard::FitsU8 => octet_of(taken, Stretch::All).is_some(),
         Guard::IsBase => is_base(taken),
         Guard::FitsReal => is_real(taken),

@@ -9,7 +9,6 @@ mod enumerations;
 mod gaps;
 mod guards;
 mod lexical;
-mod ordered;
 mod setting_pairs;
 
 pub use asked::{ByteClass, Guard, Sight};

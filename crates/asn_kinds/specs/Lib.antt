@@ -1,1 +1,2 @@
 pub mod MakingConstraints
+pub mod Values

@@ -1,6 +1,8 @@
 //! Each kind of constraint (X.680 clauses 49 to 51, X.682 clauses 8 to 11) that leads to others, over any of these, and the
 //! constraints that hold no tree.
 
+ghost use Rattle.std.specs.Prelude.{◌≡◌};
+
 use crate::objects::ObjectSetOver;
 use asn_memory::{List, Text};
 
@@ -26,7 +28,6 @@ pub enum ComponentPresence {
 }
 
 /// The components of a `WITH COMPONENTS` (X.680 51.8.6).
-#[derive(Drop)]
 pub struct InnerTypeConstraintOver<C> {
     /// Whether the list begins with `...`: components that are not listed are free.
     pub is_partial: bool,
@@ -34,20 +35,46 @@ pub struct InnerTypeConstraintOver<C> {
     pub constraints: List<ConstrainedComponentOver<C>>,
 }
 
+impl<C: Drop> Drop for InnerTypeConstraintOver<C> {
+    fn drop(self) {
+        let InnerTypeConstraintOver {
+            is_partial: _,
+            constraints: _,
+        } = self;
+    }
+}
+
 /// A listed component with what is asked of it (X.680 51.8.7).
-#[derive(Drop)]
 pub struct ConstrainedComponentOver<C> {
     pub identifier: Text,
     pub constraints: List<C>,
     pub presence: ComponentPresence,
 }
 
+impl<C: Drop> Drop for ConstrainedComponentOver<C> {
+    fn drop(self) {
+        let ConstrainedComponentOver {
+            identifier: _,
+            constraints: _,
+            presence: _,
+        } = self;
+    }
+}
+
 /// A table constraint, with the fields that choose a row (X.682 10.3, 10.7).
-#[derive(Drop)]
 pub struct TableConstraintOver<F> {
     pub object_set: ObjectSetOver<F>,
     /// The names after `@`, in order.
     pub linked_fields: List<RelationalConstraint>,
+}
+
+impl<F: Drop> Drop for TableConstraintOver<F> {
+    fn drop(self) {
+        let TableConstraintOver {
+            object_set: _,
+            linked_fields: _,
+        } = self;
+    }
 }
 
 /// A name after `@` (X.682 10.7).
@@ -73,10 +100,28 @@ pub struct UserDefinedConstraint {
 }
 
 /// An element set specification (X.680 50.1).
-#[derive(Drop)]
 pub struct ElementSetOver<O> {
     /// The root of the set.
     pub set: O,
     /// Whether an extension marker follows the root.
     pub extensible: bool,
+}
+
+impl<O: Drop> Drop for ElementSetOver<O> {
+    fn drop(self) {
+        let ElementSetOver {
+            set: _,
+            extensible: _,
+        } = self;
+    }
+}
+
+impl<O> ElementSetOver<O> {
+    /// Takes the set out, without the marker behind it.
+    pub fn into_set(self) -> O
+        ensures { result ≡ self.set }
+    {
+        let ElementSetOver { set, extensible: _ } = self;
+        set
+    }
 }

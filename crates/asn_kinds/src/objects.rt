@@ -4,7 +4,6 @@ use asn_memory::{List, Text};
 use asn_syntax::ObjectFieldIdentifier;
 
 /// An item of an object set (X.681 12.3).
-#[derive(Drop)]
 pub enum ObjectSetValueOver<F> {
     /// The name of an object or an object set.
     Reference(Text),
@@ -12,8 +11,16 @@ pub enum ObjectSetValueOver<F> {
     Inline(F),
 }
 
+impl<F: Drop> Drop for ObjectSetValueOver<F> {
+    fn drop(self) {
+        match self {
+            ObjectSetValueOver::Reference(_) => (),
+            ObjectSetValueOver::Inline(_) => (),
+        }
+    }
+}
+
 /// An object set (X.681 12.3).
-#[derive(Drop)]
 pub struct ObjectSetOver<F> {
     /// The items in order.
     pub values: List<ObjectSetValueOver<F>>,
@@ -21,36 +28,78 @@ pub struct ObjectSetOver<F> {
     pub extensible: Option<usize>,
 }
 
+impl<F: Drop> Drop for ObjectSetOver<F> {
+    fn drop(self) {
+        let ObjectSetOver {
+            values: _,
+            extensible: _,
+        } = self;
+    }
+}
+
 /// A field that is a value.
-#[derive(Drop)]
 pub struct FixedValueFieldOver<V> {
     /// The name with its `&`.
     pub identifier: Text,
     pub value: V,
 }
 
+impl<V: Drop> Drop for FixedValueFieldOver<V> {
+    fn drop(self) {
+        let FixedValueFieldOver {
+            identifier: _,
+            value: _,
+        } = self;
+    }
+}
+
 /// A field that is a type.
-#[derive(Drop)]
 pub struct TypeFieldOver<T> {
     /// The name with its `&`.
     pub identifier: Text,
     pub ty: T,
 }
 
+impl<T: Drop> Drop for TypeFieldOver<T> {
+    fn drop(self) {
+        let TypeFieldOver {
+            identifier: _,
+            ty: _,
+        } = self;
+    }
+}
+
 /// A field that is an object set.
-#[derive(Drop)]
 pub struct ObjectSetFieldOver<F> {
     /// The name with its `&`.
     pub identifier: Text,
     pub value: ObjectSetOver<F>,
 }
 
+impl<F: Drop> Drop for ObjectSetFieldOver<F> {
+    fn drop(self) {
+        let ObjectSetFieldOver {
+            identifier: _,
+            value: _,
+        } = self;
+    }
+}
+
 /// The type of a class's field, as in `ATTRIBUTE.&Type` (X.681 14.1).
-#[derive(Drop)]
 pub struct InformationObjectFieldReferenceOver<C> {
     /// The class's name.
     pub class: Text,
     /// The fields' names in order.
     pub field_path: List<ObjectFieldIdentifier>,
     pub constraints: List<C>,
+}
+
+impl<C: Drop> Drop for InformationObjectFieldReferenceOver<C> {
+    fn drop(self) {
+        let InformationObjectFieldReferenceOver {
+            class: _,
+            field_path: _,
+            constraints: _,
+        } = self;
+    }
 }

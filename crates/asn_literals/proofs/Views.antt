@@ -1,5 +1,5 @@
 -- The children that readers ask for are there.
-use Rattle.std.proofs.Common.{◌≡◌, ℕ, ◌+◌, ◌≤◌, List, [], ◌∷◌, Bool, true, false, Ok, Option, Some, None, refl, sym, ap, subst, ℤ, arith}
+use Rattle.std.proofs.Common.{◌≡◌, ℕ, ◌+◌, ◌≤◌, List, [], ◌∷◌, Bool, true, false, Ok, Option, Some, None, length, refl, sym, ap, subst, ℤ, arith}
 use Rattle.std.specs.Prelude.{codes, nat_eq, cond, ◌||◌, ◌&&◌, IsSome}
 use Rattle.std.specs.List.{All}
 use Rattle.asn_rules.specs.Derives.{Derivation, Derives, stands}
@@ -43,6 +43,13 @@ node_stands text r q depth o n d same number_is =
 
 pub node_is : (text : List ℕ) (r j : ℕ) (n : Node) → Derives whole_rules text (rule r) 0 j (n ∷ []) → Is whole_rules text r n
 node_is text r j n d = is_of whole_rules text r 0 j n d (omega arith)
+
+-- the same of the node of a rule that ends at an offset
+pub node_at_ends : (text : List ℕ) (r i j : ℕ) (n : Node) → Derives whole_rules text (rule r) i j (n ∷ []) → Derives whole_rules text (rule r) i (out-Node n).end (n ∷ [])
+node_at_ends text r i j n d = subst (λ k. Derives whole_rules text (rule r) i k (n ∷ [])) (sym (node_ends text r i j n d)) d
+
+pub node_at_is : (text : List ℕ) (r i j : ℕ) (n : Node) → Derives whole_rules text (rule r) i j (n ∷ []) → i ≤ length text → Is whole_rules text r n
+node_at_is text r i j n d le = is_of whole_rules text r i j n d le
 
 -- the blanks before a node's bytes lie within it
 pub blanks_inside : (text : List ℕ) (n b : Node) → StandsBy whole_rules text n → child_of n SP ≡ Some b → (out-Node b).end ≤ (out-Node n).end

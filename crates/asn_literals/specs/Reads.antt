@@ -1,5 +1,7 @@
 -- What the readers of trees read: a rule of the whole of ASN.1 is tried where the input begins, and its node is read.
 use Rattle.std.specs.Prelude.{◌≡◌, ℕ, ◌≤◌, List, [], ◌∷◌}
+use Rattle.asn_match.specs.Table.{Ended, Holds, at}
+use Rattle.asn_match.specs.declared.chains.MatchTable.{MatchTable}
 use Rattle.asn_rules.specs.Derives.{Derives}
 use Rattle.asn_rules.specs.Expression.{rule}
 use Rattle.asn_rules.specs.Runs.{ends, Runs}
@@ -29,6 +31,17 @@ pub record ReadsNode (number depth : ℕ) (part rest : Part) (made : Node → Ty
   pub node : Node
   pub stands_at : StandsAt number depth part rest node
   pub made_is : made node
+
+-- What is made of the node by way of which the rule ends that begins at the offset.
+pub record BuiltAt (number : ℕ) (text : List ℕ) (offset : ℕ) (made : Node → Type 0) : Type 0 where
+  pub node : Node
+  pub derives : Derives whole_rules text (rule number) offset (out-Node node).end (node ∷ [])
+  pub made_is : made node
+
+-- The table is one of the text, each entry is right and all that was tried for it has one; and the rule has ended at the
+-- offset.
+abbrev pub Offers : List ℕ → MatchTable → ℕ → ℕ → Type 0
+Offers text table number offset = Holds whole_rules text table × Ended (at table number offset)
 
 -- A fault of the reader of this rule: too deep exactly where the height exceeds the depth, a failure exactly where the
 -- height is at most the depth and the rule fails; want of memory is free.

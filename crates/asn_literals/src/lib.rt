@@ -19,7 +19,7 @@ mod strings;
 mod truths;
 
 pub use bits::{read_binary, read_hexadecimal, read_named_bits};
-pub use entry::read_node;
+pub use entry::{node_at, read_node};
 pub use exact::{blanks_are_those_of_bytes, names_are_exact, quoted_are_exact, times_are_exact};
 pub use identifiers::read_object_identifier;
 pub use items::{enumerated_numbers_fit, items_are_those_of_bytes};

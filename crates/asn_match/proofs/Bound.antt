@@ -1,9 +1,8 @@
--- What the counts come to over each table.
+-- What the counts come to over the table.
 use Rattle.std.proofs.Common.{◌≡◌, ℕ, ◌+◌, ◌*◌, ◌≤◌, List, true, length, refl, arith}
 use Rattle.std.proofs.Math.Nat.{mul-le-mul_left}
 use Rattle.std.proofs.Math.Dec.{lit≤}
 use Rattle.asn_rules.specs.Expression.{Expression, rule, rule_of}
-use Rattle.asn_rules.specs.First.{first, further}
 use Rattle.asn_rules.specs.Whole.{whole_rules}
 use Rattle.asn_rules.specs.LexicalRules.{lexical_rules_before}
 use Rattle.asn_rules.specs.ValueRules.{value_rules_before}
@@ -15,9 +14,9 @@ use Rattle.asn_rules.specs.DefinitionRules.{definition_rules_before}
 use Rattle.asn_rules.specs.Grammar.{rules_of}
 use Rattle.asn_rules.specs.Runs.{Ending, Runs}
 use Rattle.asn_rules.specs.declared.grammar.Grammar.{Grammar}
-use Rattle.asn_rules.specs.declared.grammar.Grammar.TheVariants.{First, Whole}
-use Rattle.asn_rules.proofs.Ranks.{first_takes, first_ranks, whole_takes, whole_ranks}
-use Rattle.asn_rules.proofs.Right.{first_checked, whole_checked}
+use Rattle.asn_rules.specs.declared.grammar.Grammar.TheVariants.{Whole}
+use Rattle.asn_rules.proofs.Ranks.{whole_takes, whole_ranks}
+use Rattle.asn_rules.proofs.Right.{whole_checked}
 use Rattle.asn_rules.proofs.Total.{exactly_one}
 use Rattle.asn_match.specs.Looks.{price, has, Spends}
 use Rattle.asn_match.specs.Table.{Adds}
@@ -26,20 +25,7 @@ use Rattle.asn_match.proofs.Counts.{all_single, bases, slopes, price_all}
 
 -- the expression of each rule comes to something
 pub rules_run : (grammar : Grammar) (text : List ℕ) (r i : ℕ) → i ≤ length text → (o : Ending) × (h : ℕ) × Runs (rules_of grammar) text (rule_of (rules_of grammar) r) i o h
-rules_run First text r i le = (exactly_one first text first_takes first_ranks first_checked (rule_of first r) i le).one
 rules_run Whole text r i le = (exactly_one whole_rules text whole_takes whole_ranks whole_checked (rule_of whole_rules r) i le).one
-
-first_single : all_single first ≡ true
-unfolding first further lexical_rules_before
-first_single = refl
-
-first_bases : bases first ≤ 190 * 64
-unfolding first further lexical_rules_before
-first_bases = lit≤ tt
-
-first_slopes : slopes first ≤ 190 * 64
-unfolding first further lexical_rules_before
-first_slopes = lit≤ tt
 
 whole_single : all_single whole_rules ≡ true
 unfolding whole_rules lexical_rules_before value_rules_before type_rules_before constraint_rules_before object_rules_before header_rules_before definition_rules_before
@@ -54,15 +40,12 @@ unfolding whole_rules lexical_rules_before value_rules_before type_rules_before 
 whole_slopes = lit≤ tt
 
 are_single : (grammar : Grammar) → all_single (rules_of grammar) ≡ true
-are_single First = first_single
 are_single Whole = whole_single
 
 bases_fit : (grammar : Grammar) → bases (rules_of grammar) ≤ 190 * 64
-bases_fit First = first_bases
 bases_fit Whole = whole_bases
 
 slopes_fit : (grammar : Grammar) → slopes (rules_of grammar) ≤ 190 * 64
-slopes_fit First = first_slopes
 slopes_fit Whole = whole_slopes
 
 most : (b s n : ℕ) → b ≤ 190 * 64 → s ≤ 190 * 64 → (n + 1) * (b + s * (n + 1)) ≤ ((190 * 64) * (n + 1)) * (n + 2)

@@ -3,7 +3,7 @@ use Rattle.std.proofs.Common.{◌≡◌, ℕ, ◌+◌, ◌-◌, ◌<◌, ◌≤�
 use Rattle.std.specs.Prelude.{if◌then◌else◌, slice_range}
 use Rattle.asn_guards.specs.Allows.{allows}
 use Rattle.asn_guards.specs.declared.asked.Guard.{Guard}
-use Rattle.asn_rules.specs.Derives.{Derives, joins, leaves_mark, leaves_none, misses, node, passes, repeats, idles, stops, sees as derives_sees, stands, takes, turns_to}
+use Rattle.asn_rules.specs.Derives.{Derives, joins, leaves_mark, leaves_none, misses, node, passes, repeats, idles, stops, sees as derives_sees, stands}
 use Rattle.asn_rules.specs.Expression.{Expression, see, marked, seq, choice, many, never, guarded, rule, skip, rule_of, Sight}
 use Rattle.asn_rules.specs.Marks.{mark_number}
 use Rattle.asn_rules.specs.Runs.{Ending, ends, fails, seen, judged, Runs, sees, sees_mark, seq_ends, seq_fails, choice_first, choice_second, many_turn, many_idle, many_fails, never_ends, never_fails, guard_judges, guard_fails, calls}
@@ -111,12 +111,6 @@ module _ (rules : List Expression) (text : List ℕ) (h : ℕ) where
     | inl y ↦ absurd (not_both a i j y.0 l le y.1 p)
     | inr y ↦ record { height = y.1; runs = y.3; low = omega (arith, y.4, x.low) }
   ]
-
-  pub choice_takes : (a b : Expression) (i j : ℕ) (n : List Node) → Derives rules text a i j n → Derives rules text (choice a b) i j n
-  choice_takes a b i j n d = takes d
-
-  pub choice_turns : (a b : Expression) (i j l : ℕ) (n : List Node) → RunsTo rules text a i (Fail l) → Derives rules text b i j n → Derives rules text (choice a b) i j n
-  choice_turns a b i j l n p d = turns_to p d
 
   guard_so : (a : Expression) (g : Guard) (i l : ℕ) (o : Ending) → Runs rules text (guarded a g) i o l → (j : ℕ) → o ≡ ends j → (k : ℕ) × Runs rules text a i (ends k) l × (judged text g i k ≡ ends j)
   guard_so a g i l o (guard_judges {j = k} x) j e = (k, x, e)

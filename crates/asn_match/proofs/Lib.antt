@@ -6,3 +6,5 @@ pub mod Tables
 pub mod Bound
 pub mod Comes
 pub mod Grows
+pub mod Dues
+pub mod Choices

@@ -1,5 +1,5 @@
 -- The packrat table (B. Ford, Packrat Parsing, 2002): what was tried, and what it came to.
-use Rattle.std.specs.Prelude.{◌≡◌, ℕ, ◌≤◌, List, Option, Some, nat_eq, ◌&&◌, if◌then◌else◌, IsSome, IfSome, slice_get, ◌⊎◌, length, MatchOption, ◌<◌}
+use Rattle.std.specs.Prelude.{◌≡◌, ℕ, ◌≤◌, List, Option, Some, None, nat_eq, ◌&&◌, if◌then◌else◌, IsSome, IfSome, slice_get, ◌⊎◌, length, MatchOption, ◌<◌}
 use Rattle.asn_match.specs.Chain.{from_place}
 use Rattle.asn_match.specs.declared.chains.MatchTable.{MatchTable}
 use Rattle.asn_rules.specs.declared.run.Outcome.{Outcome}
@@ -15,6 +15,12 @@ at t r i = from_place t.entries.items r (slice_get t.newest.items i)
 -- the pair is entered with its outcome, and all else is as it was
 abbrev pub Sets : MatchTable → MatchTable → ℕ → ℕ → Outcome → Type 0
 Sets old new r i o = (s j : ℕ) → at new s j ≡ (if nat_eq r s && nat_eq i j then Some o else at old s j)
+
+-- what was tried has ended
+abbrev pub Ended : Option Outcome → Type 0
+Ended None = ⊥
+Ended (Some (End j h)) = Unit {0}
+Ended (Some (Fail h)) = ⊥
 
 -- The try of the expression at the offset tries the rule r at j.
 pub data Tries (rules : List Expression) (text : List ℕ) : Expression → ℕ → ℕ → ℕ → Type 0 where

@@ -1,18 +1,19 @@
-//! The tree of a rule at the start of a text, by a table.
+//! The tree of a rule, by a table.
 
-ghost use Rattle.asn_match.specs.Table.{Holds};
+ghost use Rattle.asn_match.specs.Table.{Ended, Holds, at};
 ghost use Rattle.asn_match.specs.inner.Given.{Enters};
-ghost use Rattle.asn_rules.specs.Derives.{Derivation};
+ghost use Rattle.asn_rules.specs.Derives.{Derivation, Derives};
 ghost use Rattle.asn_rules.specs.Expression.{rule as rule_call};
 ghost use Rattle.asn_rules.specs.Grammar.{rules_of};
 ghost use Rattle.asn_rules.specs.Runs.{Ending, Exceeds, Runs};
 ghost use Rattle.asn_rules.specs.declared.run.MatchFault.TheVariants.{TooDeep};
-ghost use Rattle.std.specs.Prelude.{◌≡◌, ◌<◌, ◌≤◌, ℕ, Err, IfOk, IsOk};
+ghost use Rattle.std.specs.Prelude.{◌≡◌, ◌<◌, ◌≤◌, ℕ, [], ◌∷◌, Err, IfOk, IsOk, length};
 
 use crate::chains::MatchTable;
 use crate::grow::grow_rule;
-use crate::probe::{Probe, Steps};
 use crate::tries::filled;
+use asn_memory::Mem;
+use asn_probe::{Probe, Steps};
 use asn_rules::{Grammar, MatchFault, Node, Outcome, RuleId};
 use std::alloc::Global;
 use std::marker::Brand;
@@ -72,5 +73,44 @@ pub fn derive_rule(
             None => unreachable!(),
         },
         Err(fault) => Err(fault),
+    }
+}
+
+/// The tree of the rule at the offset, in bytes from the start of the text, by a table in which each entry is right and all that
+/// was tried for an entry has one, as each table is that [`match_rule`](crate::match_rule) answers. The rule has ended there.
+pub fn node_at(
+    alloc: Global,
+    grammar: Grammar,
+    text: &str,
+    table: &MatchTable,
+    rule: RuleId,
+    offset: usize,
+) -> Mem<Node>
+    requires holds { Holds (rules_of grammar) text.now table.now }
+    requires ended { Ended (at table.now rule.number offset) }
+    ensures derives { IfOk result (λ n. (j : ℕ) × Derives (rules_of grammar) text.now (rule_call rule.number) offset j (n ∷ [])) }
+    ensures within { IsOk result → offset ≤ length text.now }
+{
+    match table.find(rule.number, offset) {
+        Some(
+            Outcome::End {
+                offset: end,
+                height,
+            },
+        ) => {
+            let bytes = text.as_bytes();
+            grow_rule(
+                alloc,
+                grammar,
+                bytes,
+                table,
+                rule.number,
+                offset,
+                end,
+                height,
+            )
+        }
+        Some(Outcome::Fail { .. }) => unreachable!(),
+        None => unreachable!(),
     }
 }

@@ -4,12 +4,12 @@
 //! no node is made that does not stand.
 
 ghost use Rattle.asn_match.specs.Table.{Holds};
-ghost use Rattle.asn_match.specs.inner.Given.{EndsWithin, Enters};
+ghost use Rattle.asn_match.specs.inner.Given.{EndsWithin, Enters, StandsFor};
 ghost use Rattle.asn_rules.specs.Derives.{Derives, node};
-ghost use Rattle.asn_rules.specs.Expression.{expression, seq, choice, many, guarded, rule};
+ghost use Rattle.asn_rules.specs.Expression.{expression, seq, choice, many, guarded, rule, weight};
 ghost use Rattle.asn_rules.specs.Grammar.{rules_of};
 ghost use Rattle.asn_rules.specs.Marks.{mark_number};
-ghost use Rattle.std.specs.Prelude.{◌≡◌, ◌≤◌, [], ◌∷◌, length, IfOk};
+ghost use Rattle.std.specs.Prelude.{◌≡◌, ◌≤◌, ◌<◌, ◌+◌, [], ◌∷◌, length, IfOk};
 
 use crate::chains::MatchTable;
 use crate::come::come;
@@ -62,9 +62,10 @@ pub(crate) fn grow(
         Expression::Sequence(left, right) => Ok(grow_sequence(
             alloc, grammar, text, table, left, right, offset, end, height,
         )?),
-        Expression::Choice(left, right) => Ok(grow_choice(
-            alloc, grammar, text, table, left, right, offset, end, height,
-        )?),
+        Expression::Choice(left, right) => {
+            let one = chosen(grammar, text, table, left, right, offset);
+            Ok(grow(alloc, grammar, text, table, one, offset, end, height)?)
+        }
         Expression::Many(turn) => Ok(grow_many(
             alloc, grammar, text, table, turn, offset, end, height,
         )?),
@@ -135,29 +136,32 @@ fn grow_sequence(
     }
 }
 
-// The nodes of the first, or where it fails of the second.
-#[cycle(growing)]
-#[tactic(auto, using(crate::proofs::Comes::enters_one, crate::proofs::Comes::enters_other, crate::proofs::Grows::choice_left, crate::proofs::Grows::choice_right, crate::proofs::Grows::choice_takes, crate::proofs::Grows::choice_turns))]
-fn grow_choice(
-    alloc: Global,
+// Of two alternatives the one that stands, or where that is a choice again, the one of it. Nothing is grown meanwhile, so a
+// choice of many takes no more of the stack than one of two.
+#[tactic(auto, using(crate::proofs::Comes::enters_one, crate::proofs::Comes::enters_other, crate::proofs::Choices::stands_left, crate::proofs::Choices::stands_right, crate::proofs::Choices::stands_behind))]
+fn chosen(
     grammar: Grammar,
     text: &[u8],
     table: &MatchTable,
-    left: &Expression,
-    right: &Expression,
+    left: &'static Expression,
+    right: &'static Expression,
     offset: usize,
-    end: usize,
-    height: usize,
-) -> Mem<List<Node>>
+) -> &'static Expression
     requires start { offset ≤ length text.now }
     requires holds { Holds (rules_of grammar) text.now table.now }
     requires enters { Enters (rules_of grammar) text.now table.now (choice (expression left.now) (expression right.now)) offset }
-    requires ends { EndsWithin (rules_of grammar) text.now height (choice (expression left.now) (expression right.now)) offset end }
-    ensures { IfOk result (λ nodes. Derives (rules_of grammar) text.now (choice (expression left.now) (expression right.now)) offset end nodes) }
+    ensures enters { Enters (rules_of grammar) text.now table.now (expression result.now) offset }
+    ensures stands { StandsFor (rules_of grammar) text.now (choice (expression left.now) (expression right.now)) (expression result.now) offset }
+    ensures light { weight (expression result.now) < 1 + weight (expression left.now) + weight (expression right.now) }
 {
     match come(grammar, text, table, left, offset) {
-        Outcome::End { .. } => Ok(grow(alloc, grammar, text, table, left, offset, end, height)?),
-        Outcome::Fail { .. } => Ok(grow(alloc, grammar, text, table, right, offset, end, height)?),
+        Outcome::End { .. } => left,
+        Outcome::Fail { .. } => match right {
+            Expression::Choice(next, further) => {
+                chosen(grammar, text, table, next, further, offset)
+            }
+            _ => right,
+        },
     }
 }
 

@@ -8,14 +8,16 @@
 mod chains;
 mod come;
 mod derive;
+mod due;
 mod grow;
-mod probe;
 mod run;
 mod sights;
 mod table;
 mod tries;
+mod whole;
 
+pub use asn_probe::{Probe, Steps};
 pub use chains::MatchTable;
-pub use derive::derive_rule;
-pub use probe::{Probe, Steps};
+pub use derive::{derive_rule, node_at};
 pub use tries::{match_rule, match_table, tried};
+pub use whole::{WholeText, whole_text};

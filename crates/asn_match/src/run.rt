@@ -12,8 +12,8 @@ ghost use Rattle.asn_rules.specs.inner.Answer.{answer, height_of, one_more, rais
 ghost use Rattle.std.specs.Prelude.{◌≡◌, ◌≤◌, ◌<◌, ◌+◌, ◌^◌, length, OnOk};
 
 use crate::chains::MatchTable;
-use crate::probe::{Probe, Steps};
 use crate::sights::{is_allowed_at, see_at};
+use asn_probe::{Probe, Steps};
 use asn_rules::{Expression, Grammar, Guard, MatchFault, Outcome, rule_expression};
 use std::sync::ledger::Ledger;
 
@@ -57,7 +57,7 @@ fn height(outcome: Outcome) -> usize
 
 // What the expression comes to, with the table of what was tried so far.
 #[cycle(matching)]
-fn run<L: Ledger>(
+pub(crate) fn run<L: Ledger>(
     grammar: Grammar,
     text: &Probe,
     expr: &Expression,

@@ -9,7 +9,7 @@ ghost use Rattle.asn_match.specs.Looks.{looks};
 ghost use Rattle.asn_rules.specs.Runs.{seen};
 ghost use Rattle.asn_rules.specs.inner.Answer.{at_height};
 
-use crate::probe::{Probe, Steps};
+use asn_probe::{Probe, Steps};
 use asn_rules::{ByteClass, Guard, MatchFault, Outcome, Sight, is_in_class};
 use std::sync::ledger::Ledger;
 

@@ -26,6 +26,13 @@ impl MatchTable {
         self.find(rule.number, offset)
     }
 
+    /// How many entries it has.
+    pub fn entries(&self) -> usize
+        ensures { result ≡ length self.now.entries.items }
+    {
+        self.entries.len()
+    }
+
     // The outcome of the pair, if it was tried.
     pub(crate) fn find(&self, rule: u8, offset: usize) -> Option<Outcome>
         ensures { result ≡ at self.now rule offset }

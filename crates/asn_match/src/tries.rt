@@ -11,8 +11,8 @@ ghost use Rattle.asn_rules.specs.declared.run.MatchFault.TheVariants.{TooDeep};
 ghost use Rattle.std.specs.Prelude.{◌≡◌, ◌≤◌, ◌+◌, ◌*◌, ℕ, length, Err, IfOk, IsOk};
 
 use crate::chains::MatchTable;
-use crate::probe::{Probe, Steps};
 use crate::run::run_rule;
+use asn_probe::{Probe, Steps};
 use asn_rules::{Grammar, MatchFault, RuleId, names};
 use std::alloc::Global;
 use std::sync::ledger::Ledger;
@@ -68,6 +68,7 @@ pub fn tried<L: Ledger>(
     steps: &mut Steps<L>,
 ) -> Result<MatchTable, MatchFault>
     ensures table { IfOk result (λ t. IsTableOf (rules_of grammar) text.now rule.number t) }
+    ensures holds { IfOk result (Holds (rules_of grammar) text.now) }
     ensures flat { IsOk result → (o : Ending) (h : ℕ) → Runs (rules_of grammar) text.now (rule_call rule.number) 0 o h → h ≤ depth }
     ensures deep { result ≡ Err TooDeep → Exceeds (rules_of grammar) text.now (rule_call rule.number) 0 depth }
     ensures looks { steps.new ≤ steps.old + ((190 * 64) * (length text.now + 1)) * (length text.now + 2) }
@@ -85,6 +86,7 @@ pub fn match_rule<L: Ledger>(
     steps: &mut Steps<L>,
 ) -> Result<MatchTable, MatchFault>
     ensures table { IfOk result (λ t. IsTableOf whole_rules text.now rule.number t) }
+    ensures holds { IfOk result (Holds whole_rules text.now) }
     ensures flat { IsOk result → (o : Ending) (h : ℕ) → Runs whole_rules text.now (rule_call rule.number) 0 o h → h ≤ depth }
     ensures deep { result ≡ Err TooDeep → Exceeds whole_rules text.now (rule_call rule.number) 0 depth }
     ensures looks { steps.new ≤ steps.old + ((190 * 64) * (length text.now + 1)) * (length text.now + 2) }
@@ -101,6 +103,7 @@ pub fn match_table<L: Ledger>(
     steps: &mut Steps<L>,
 ) -> Result<MatchTable, MatchFault>
     ensures table { IfOk result (λ t. IsTableOf whole_rules text.now 190 t) }
+    ensures holds { IfOk result (Holds whole_rules text.now) }
     ensures flat { IsOk result → (o : Ending) (h : ℕ) → Runs whole_rules text.now (rule_call 190) 0 o h → h ≤ depth }
     ensures deep { result ≡ Err TooDeep → Exceeds whole_rules text.now (rule_call 190) 0 depth }
     ensures looks { steps.new ≤ steps.old + ((190 * 64) * (length text.now + 1)) * (length text.now + 2) }

@@ -10,9 +10,14 @@ use std::boxed::Box as Heap;
 use std::marker::Model;
 
 /// A `std::boxed::Box` that contracts see as its value.
-#[derive(Drop)]
 pub struct Box<T> {
     inner: Heap<T>,
+}
+
+impl<T: Drop> Drop for Box<T> {
+    fn drop(self) {
+        let Box { inner: _ } = self;
+    }
 }
 
 impl<T> Model for Box<T> {

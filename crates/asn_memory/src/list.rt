@@ -12,9 +12,14 @@ use std::alloc::{AllocError, Global};
 use std::marker::Model;
 
 /// A `Vec` that contracts see as the list of its items. It keeps its allocator.
-#[derive(Drop)]
 pub struct List<T> {
     items: Vec<T>,
+}
+
+impl<T: Drop> Drop for List<T> {
+    fn drop(self) {
+        let List { items: _ } = self;
+    }
 }
 
 impl<T> Model for List<T> {
@@ -113,12 +118,12 @@ impl<T: Drop> List<T> {
         ensures ok { OnOk result (self.new ≡ self.old ++ other) }
         ensures err { OnErr result (self.new ≡ self.old) }
     {
+        let mut items = other.into_vec();
         if self.is_empty() {
-            self.items = other.items;
+            self.items = items;
             return Ok(());
         }
-        let mut from = other.items;
-        self.items.append(&mut from)?;
+        self.items.append(&mut items)?;
         Ok(())
     }
 

@@ -31,13 +31,14 @@ use Rattle.asn_tree.specs.Layers.{TypeLayer}
 use Rattle.asn_needs.specs.Basic.{AreBasic, IsBasic, IsBasicDefinition, are_basic, basic_at, basic_member, basic_struct, has_no_names, is_basic}
 use Rattle.asn_needs.specs.Needs.{HasEdge, HasHeight, above, NameHasHeight}
 use Rattle.asn_needs.specs.Sites.{Seen, seen, Node, ToDefinition}
-use Rattle.asn_names.specs.declared.faults.Fault.TheVariants.{MissingDependency}
 use Rattle.asn_names.specs.Definitions.{Definitions, is_named, last_named, type_of}
 use Rattle.asn_names.specs.Decided.{HasHeights, IsDecidedIn, IsYesOrNo, steps_of, steps_of_fields}
 use Rattle.asn_names.specs.Faults.{IsClean, IsSpotless, is_missing}
-use Rattle.asn_names.specs.Occurrences.{names_in, members_names, names_of, Reaches, occurs, goes_on}
+use Rattle.asn_names.specs.Occurrences.{names_of, Reaches, occurs, goes_on}
+use Rattle.asn_unchanged.specs.References.{names_in}
 use Rattle.asn_names.proofs.HeadEdges.{head_edge, no_lists}
-use Rattle.asn_names.proofs.Occurrences.{level_names, names_are, names_is}
+use Rattle.asn_names.proofs.Faultless.{nothing_missing}
+use Rattle.asn_names.proofs.Occurrences.{level_names, members_names, names_are, names_is}
 use Rattle.asn_names.proofs.Seen.{or_else, type_is_last, type_is_seen}
 use Rattle.asn_names.proofs.Settled.{AlwaysLeadsTo, IsAlwaysHead, IsThere, OwnBasic, Settled, all_known_from, answer_known, basic_append, before_further, before_head, both_known, both_true, settled_further, settled_head}
 
@@ -162,12 +163,8 @@ module _ (defs : Definitions) (basic : AreBasic defs) (d : ToplevelDefinition) (
   is_typed None h = absurd cc
   is_typed (Some e) h = (e, refl)
 
-  none_missing : (b : Bool) → (if b then Some MissingDependency else None) ≡ None → b ≡ false
-  none_missing true h = absurd cc
-  none_missing false h = refl
-
   spotless_seen : (e : ToplevelDefinition) → IsSpotless defs e → (x : List ℕ) → Contains (names_of e) x → Typed (type_named defs x)
-  spotless_seen e spotless x c = is_typed (type_named defs x) (any_false (is_missing defs) (names_of e) x c (none_missing _ spotless.faultless))
+  spotless_seen e spotless x c = is_typed (type_named defs x) (any_false (is_missing defs) (names_of e) x c (nothing_missing defs e spotless.faultless))
 
   reached_seen : (x : List ℕ) → Reaches defs d x → Typed (type_named defs x)
   reached_seen x (occurs c) = spotless_seen d clean.itself x c
@@ -182,7 +179,9 @@ module _ (defs : Definitions) (basic : AreBasic defs) (d : ToplevelDefinition) (
 
   -- the names in the type of a name that is reached
   within_named : (x : List ℕ) → Reaches defs d x → (e : ToplevelTypeDefinition) → type_named defs x ≡ Some e → Within (level_names (out-ASN1Type e.ty))
-  within_named x r e is n c = goes_on r (type_is_seen defs x e is) (subst (λ ns. Contains ns n) (sym (names_is e.ty)) c)
+  within_named x r e is n c =
+      let b = (basic_named x e is).1 in
+      goes_on r (type_is_seen defs x e is) (subst (λ ns. Contains ns n) (sym (names_are (TypeDef e) e.ty refl ∙ names_is b.0 e.ty b.1)) c)
 
   abbrev Inside : ASN1Type → Type 0
   Inside ty = Within (level_names (out-ASN1Type ty))
@@ -291,7 +290,7 @@ module _ (defs : Definitions) (basic : AreBasic defs) (d : ToplevelDefinition) (
         let bs = both_true (is_basic f m.ty) (is_none m.default_value && are_basic m.constraints) b in
         let cs = (both_true (is_none m.default_value) (are_basic m.constraints) bs.1).1 in
         let u_known = below m.name u e in
-        u_known.0 m.ty (f, bs.0) (λ n c. within n (subst (λ ns. Contains ns n) (sym (names_is m.ty)) c)) m.constraints cs k (omega (arith, le, u_known.1))
+        u_known.0 m.ty (f, bs.0) (λ n c. within n (subst (λ ns. Contains ns n) (sym (names_is f m.ty bs.0)) c)) m.constraints cs k (omega (arith, le, u_known.1))
 
     members_known : (marker : Option ℕ) (number : ℕ) (ms : List SequenceOrSetMember) → list_all (λ m. basic_member (is_basic f) (out-SequenceOrSetMember m)) ms ≡ true → Within (members_names ms) → IsYesOrNo (each (λ m. member_judged ask m (field_named fs m.written.name)) (written_from marker number ms))
     unfolding written_from
@@ -381,5 +380,6 @@ module _ (defs : Definitions) (basic : AreBasic defs) (d : ToplevelDefinition) (
 
   pub every_decided : IsBasicDefinition d → (ty : ASN1Type) → type_of d ≡ Some ty → (t : ValueTree) → IsDecidedIn defs (steps_of h t) ty t
   every_decided b ty is t k le =
-      tree_decided t ty (basic_type b ty is)
-      (λ n c. occurs (subst (λ ns. Contains ns n) (sym (names_are d ty is ∙ names_is ty)) c)) [] refl k le
+      let basic_ty = basic_type b ty is in
+      tree_decided t ty basic_ty
+      (λ n c. occurs (subst (λ ns. Contains ns n) (sym (names_are d ty is ∙ names_is basic_ty.0 ty basic_ty.1)) c)) [] refl k le

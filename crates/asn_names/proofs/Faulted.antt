@@ -38,7 +38,10 @@ use Rattle.asn_names.specs.Definitions.{Definitions, last_named}
 use Rattle.asn_names.specs.Faults.{fault_of, is_missing}
 use Rattle.asn_names.specs.Laws.{FaultsStand}
 use Rattle.asn_names.specs.Needed.{stands_as, type_occurrence}
-use Rattle.asn_names.specs.Occurrences.{names_in}
+use Rattle.asn_unchanged.specs.References.{names_in}
+use Rattle.asn_unchanged.specs.Unchanged.{is_unchanged}
+use Rattle.asn_names.proofs.Faultless.{fault_is}
+use Rattle.asn_names.proofs.Occurrences.{type_names_are}
 use Rattle.asn_names.proofs.Decided.{of_last}
 use Rattle.asn_names.proofs.Places.{IsBasicForm, IsBasicSite, IsNamed, instance_none, name_occurs, place_basic, place_names, same_either, type_lacks_nothing}
 use Rattle.asn_names.proofs.Settled.{end_there}
@@ -298,17 +301,21 @@ module _ (stay : HeadsStay) (defs : Definitions) (basic : AreBasic defs) (n : �
   abbrev IsWarnedAs : Fault → Type 0
   IsWarnedAs k = (f : Warned) × (fault_of defs (TypeDef d) ≡ Some f) × (k ≡ stands_as f)
 
-  missing_warned : list_any (is_missing defs) (names_in d.ty) ≡ true → IsWarnedAs MissingDependency
-  missing_warned h = (warned.MissingDependency, ap (λ c. if c then Some warned.MissingDependency else None) h, refl)
+  missing_warned : is_unchanged (TypeDef d) ≡ true → list_any (is_missing defs) (names_in d.ty) ≡ true → IsWarnedAs MissingDependency
+  missing_warned unchanged h = (
+    warned.MissingDependency,
+    fault_is defs (TypeDef d) unchanged ∙ ap (λ c. if c then Some warned.MissingDependency else None) (ap (list_any (is_missing defs)) (type_names_are d) ∙ h),
+    refl,
+  )
 
-  stands_warned : (IsCyclic S (ToDefinition name) → ⊥) → has_reversed_range S (ToDefinition name) ≡ false → {k : Fault} → Stands S (ToDefinition name) k → IsWarnedAs k
-  stands_warned free ordered (a_cycle c) = absurd (no_cycle free c)
-  stands_warned free ordered (a_wrong_argument h) = absurd (no_argument h)
-  stands_warned free ordered (a_missing_name h) = missing_warned (missing_found h)
-  stands_warned free ordered (a_form_not_linked h) = absurd (no_form h)
-  stands_warned free ordered (a_syntax_not_followed t h) = absurd (no_syntax h)
-  stands_warned free ordered (a_value_without_tree t h) = absurd (no_value h)
-  stands_warned free ordered (a_reversed_range h) = absurd (not_both (has_reversed_range S (ToDefinition name)) h ordered)
+  stands_warned : is_unchanged (TypeDef d) ≡ true → (IsCyclic S (ToDefinition name) → ⊥) → has_reversed_range S (ToDefinition name) ≡ false → {k : Fault} → Stands S (ToDefinition name) k → IsWarnedAs k
+  stands_warned unchanged free ordered (a_cycle c) = absurd (no_cycle free c)
+  stands_warned unchanged free ordered (a_wrong_argument h) = absurd (no_argument h)
+  stands_warned unchanged free ordered (a_missing_name h) = missing_warned unchanged (missing_found h)
+  stands_warned unchanged free ordered (a_form_not_linked h) = absurd (no_form h)
+  stands_warned unchanged free ordered (a_syntax_not_followed t h) = absurd (no_syntax h)
+  stands_warned unchanged free ordered (a_value_without_tree t h) = absurd (no_value h)
+  stands_warned unchanged free ordered (a_reversed_range h) = absurd (not_both (has_reversed_range S (ToDefinition name)) h ordered)
 
   nothing_before : (IsCyclic S (ToDefinition name) → ⊥) → {j : Fault} → rank j < 3 → Stands S (ToDefinition name) j → ⊥
   nothing_before free lt (a_cycle c) = no_cycle free c
@@ -330,9 +337,9 @@ module _ (stay : HeadsStay) (defs : Definitions) (basic : AreBasic defs) (n : �
 -- ---- whatever the number of steps
 
 pub faults_stand : HeadsStay → FaultsStand
-faults_stand stay defs basic name (Value d) is acyclic ordered k = absurd (of_last IsBasicDefinition defs basic name (Value d) is)
-faults_stand stay defs basic name (Information d) is acyclic ordered k = absurd (of_last IsBasicDefinition defs basic name (Information d) is)
-faults_stand stay defs basic name (TypeDef d) is acyclic ordered k = (to, from)
+faults_stand stay defs basic name (Value d) is unchanged acyclic ordered k = absurd (of_last IsBasicDefinition defs basic name (Value d) is)
+faults_stand stay defs basic name (Information d) is unchanged acyclic ordered k = absurd (of_last IsBasicDefinition defs basic name (Information d) is)
+faults_stand stay defs basic name (TypeDef d) is unchanged acyclic ordered k = (to, from)
   where
     to : FaultOf defs (ToDefinition name) k → (f : Warned) × (fault_of defs (TypeDef d) ≡ Some f) × (k ≡ stands_as f)
     to (n, fault) =
@@ -340,17 +347,18 @@ faults_stand stay defs basic name (TypeDef d) is acyclic ordered k = (to, from)
         let of_cycle : acyclic.0 + (n + ordered.0) ≡ n + acyclic.0 + ordered.0 = omega arith in
         let of_order : ordered.0 + (n + acyclic.0) ≡ n + acyclic.0 + ordered.0 = omega arith in
         let of_fault : n + (acyclic.0 + ordered.0) ≡ n + acyclic.0 + ordered.0 = omega arith in
-        stands_warned stay defs basic n' name d is (of_last IsBasicDefinition defs basic name (TypeDef d) is)
+        stands_warned stay defs basic n' name d is (of_last IsBasicDefinition defs basic name (TypeDef d) is) unchanged
         (subst (λ i. IsCyclic (seen defs i) (ToDefinition name) → ⊥) of_cycle (acyclic.1 (n + ordered.0)))
         (subst (λ i. has_reversed_range (seen defs i) (ToDefinition name) ≡ false) of_order (ordered.1 (n + acyclic.0)))
         (subst (λ i. IsFault (seen defs i) (ToDefinition name) k) of_fault (fault (acyclic.0 + ordered.0))).stands
 
     missing : (c : Bool) (f : Warned) → (if c then Some warned.MissingDependency else None) ≡ Some f → (c ≡ true) × (f ≡ warned.MissingDependency)
     missing true warned.MissingDependency e = (refl, refl)
+    missing true warned.NotYetInplemented e = absurd cc
     missing false f e = absurd cc
 
     from : (f : Warned) × (fault_of defs (TypeDef d) ≡ Some f) × (k ≡ stands_as f) → FaultOf defs (ToDefinition name) k
     from (f, e, same) =
-        let m = missing (list_any (is_missing defs) (names_in d.ty)) f e in
+        let m = missing (list_any (is_missing defs) (names_in d.ty)) f (sym (fault_is defs (TypeDef d) unchanged ∙ ap (λ ns. if list_any (is_missing defs) ns then Some warned.MissingDependency else None) (type_names_are d)) ∙ e) in
         subst (FaultOf defs (ToDefinition name)) (sym (same ∙ ap stands_as m.1))
         (acyclic.0, λ i. is_fault stay defs basic (acyclic.0 + i) name d is (of_last IsBasicDefinition defs basic name (TypeDef d) is) (acyclic.1 i) m.0)

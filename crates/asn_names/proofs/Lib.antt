@@ -4,11 +4,10 @@ pub mod Standing
 pub mod Given
 pub mod Linked
 pub mod Occurrences
-pub mod Folds
 pub mod Settled
 pub mod HeadEdges
 pub mod Places
 pub mod Needed
 pub mod Decided
 pub mod Faulted
-pub mod PlainForms
+pub mod Faultless

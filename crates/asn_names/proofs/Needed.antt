@@ -6,11 +6,12 @@ use Rattle.asn_tree.specs.declared.definitions.ToplevelDefinition.TheVariants.{T
 use Rattle.asn_needs.specs.Occurrences.{OccursIn, names_at}
 use Rattle.asn_needs.specs.Sites.{seen, ToDefinition}
 use Rattle.asn_names.specs.Laws.{NamesOccur}
-use Rattle.asn_names.specs.Occurrences.{names_in, names_of}
+use Rattle.asn_unchanged.specs.References.{names_in, names_of}
 use Rattle.asn_names.specs.Needed.{type_occurrence}
 use Rattle.asn_names.proofs.Places.{IsNamed, name_occurs, place_names}
 
 pub names_occur : NamesOccur
+unfolding names_of
 names_occur defs n name (TypeDef d) is basic o = (to, from)
   where
     to : OccursIn (seen defs n) (ToDefinition name) o → (x : List ℕ) × (o ≡ type_occurrence x) × Contains (names_of (TypeDef d)) x

@@ -1,5 +1,5 @@
 -- The places of a definition of basic form, and the names that occur there.
-use Rattle.std.proofs.Common.{◌≡◌, ◌⊎◌, inl, inr, ℕ, zero, suc, ◌+◌, List, [], ◌∷◌, ◌++◌, map, Bool, true, false, Option, Some, None, refl, sym, ap, ◌∙◌, subst, arith}
+use Rattle.std.proofs.Common.{◌≡◌, ◌⊎◌, inl, inr, ℕ, zero, suc, List, [], ◌∷◌, ◌++◌, map, Bool, true, false, Option, Some, None, refl, sym, ap, ◌∙◌, subst, arith}
 use Rattle.std.specs.Prelude.{ℤ, ◌&&◌, ◌||◌, is_none, is_some, if◌then◌else◌}
 use Rattle.std.specs.List.{All, Contains, list_all}
 use Rattle.std.proofs.lemmas.List.Elements.{All-append, All-cons, All-contains, All-nil, Contains-append_cases, Contains-append_left, Contains-append_right}
@@ -35,10 +35,10 @@ use Rattle.asn_needs.specs.PartsOfValues.{free_parts, governed_parts, headless_p
 use Rattle.asn_needs.specs.Sites.{Seen, seen, Site, beside, each_of, Form, TypePlace, AtHead, InPlace, AsEnd, AsSuch, Asked, OfValues, AType, ComponentsOf, AValue, AConstraint, ASet, AnElement, ToDefinition}
 use Rattle.asn_needs.specs.Stands.{IsPlaceOf, StandsIn, at_first, dummy_forms, first_sites, node_sites, outermost, parts, parts_at, within}
 use Rattle.asn_names.specs.Definitions.{Definitions, last_named}
-use Rattle.asn_names.specs.Occurrences.{members_names, names_in}
+use Rattle.asn_unchanged.specs.References.{names_in}
 use Rattle.asn_names.specs.Needed.{type_occurrence}
 use Rattle.asn_names.proofs.HeadEdges.{no_lists}
-use Rattle.asn_names.proofs.Occurrences.{level_names, names_is}
+use Rattle.asn_names.proofs.Occurrences.{level_names, members_names, names_is}
 use Rattle.asn_names.proofs.Settled.{basic_append, both_true}
 
 -- ---- lists
@@ -204,7 +204,7 @@ module _ (S : Seen) (names : List (List ℕ)) where
           All-append IsBasicSite (components ++ instances ++ loose) (constraint_sites (started s) (Some (place s.scope ty)) cs)
           (All-append IsBasicSite (components ++ instances) loose
           (All-append IsBasicSite components instances
-          (components_basic (started s) scope n l b (λ x c. t.among x (subst (λ ns. Contains ns x) (sym (names_is ty)) c)))
+          (components_basic (started s) scope n l b (λ x c. t.among x (subst (λ ns. Contains ns x) (sym (names_is (suc n) ty b)) c)))
           (subst (All IsBasicSite) (sym (no_lists_at (started s) at (is_basic n) l b)) (All-nil IsBasicSite)))
           (subst (λ ls. All IsBasicSite (loose_lists (started s) ls)) (sym (no_lists behind t.plain)) (All-nil IsBasicSite)))
           (constraints_basic (started s) scope (Some (place s.scope ty)) cs (basic_append S.defs (listed (constraints_at l)) behind (basic_constraints_at (is_basic n) l b) t.plain))
@@ -323,7 +323,7 @@ module _ (S : Seen) (names : List (List ℕ)) where
       go zero h = absurd cc
       go (suc n) h =
           subst (λ scope. All IsNamed (names_in_type scope at (kind_at (out-ASN1Type ty)))) (sym scope)
-          (type_names at b.need (is_basic n) (out-ASN1Type ty) h (λ x c. b.among x (subst (λ ns. Contains ns x) (sym (names_is ty)) c)))
+          (type_names at b.need (is_basic n) (out-ASN1Type ty) h (λ x c. b.among x (subst (λ ns. Contains ns x) (sym (names_is (suc n) ty h)) c)))
   form_names s scope (AValue at v p) b = subst (All IsNamed) (sym (number_names s.scope p (as_written v) b.1)) (All-nil IsNamed)
   form_names s scope (AConstraint c p) b = All-nil IsNamed
   form_names s scope (ASet asked set p) b = All-nil IsNamed
@@ -363,7 +363,7 @@ module _ (S : Seen) (first : List Site) (x : List ℕ) where
 
   occurs_in : (n : ℕ) (at : TypePlace) (ty : ASN1Type) → needed_at at ≡ NeedsType → is_basic n ty ≡ true → Contains (names_in ty) x → StandsAt at ty → Occurs
   occurs_in zero at ty need b c there = absurd cc
-  occurs_in (suc n) at ty need b c (s, behind, scope, stands) = go (out-ASN1Type ty) refl (subst (λ ns. Contains ns x) (names_is ty) c) (λ m c d t. occurs_in n InPlace (out-SequenceOrSetMember m).ty refl c d t)
+  occurs_in (suc n) at ty need b c (s, behind, scope, stands) = go (out-ASN1Type ty) refl (subst (λ ns. Contains ns x) (names_is (suc n) ty b) c) (λ m c d t. occurs_in n InPlace (out-SequenceOrSetMember m).ty refl c d t)
     where
       go : (l : TypeLayer) → out-ASN1Type ty ≡ l → Contains (level_names (out-ASN1Type ty)) x → ((m : SequenceOrSetMember) → is_basic n (out-SequenceOrSetMember m).ty ≡ true → Contains (names_in (out-SequenceOrSetMember m).ty) x → StandsAt InPlace (out-SequenceOrSetMember m).ty → Occurs) → Occurs
       go (ASN1Type-F.Sequence q) is d inside =

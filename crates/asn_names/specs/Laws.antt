@@ -1,9 +1,7 @@
 -- Laws of names and of linked definitions.
-use Rattle.std.specs.Prelude.{◌≡◌, ◌↔◌, ℕ, List, Some}
+use Rattle.std.specs.Prelude.{◌≡◌, ◌↔◌, ℕ, List, Some, true}
 use Rattle.std.specs.List.{Contains}
-use Rattle.asn_tree.specs.Tagging.{retagged}
 use Rattle.asn_tree.specs.declared.definitions.ToplevelDefinition.{ToplevelDefinition}
-use Rattle.asn_headers.specs.declared.headers.TaggingEnvironment.{TaggingEnvironment}
 use Rattle.asn_tree.specs.declared.types.ASN1Type.{ASN1Type}
 use Rattle.asn_meaning.specs.Tags.{DifferInTags}
 use Rattle.asn_meaning.specs.ValueTrees.{ValueTree}
@@ -18,11 +16,12 @@ use Rattle.asn_names.specs.declared.faults.Fault.{Fault as Warned}
 use Rattle.asn_names.specs.Given.{IsGiven, given_definitions}
 use Rattle.asn_names.specs.Linked.{AreLinked}
 use Rattle.asn_names.specs.Needed.{IsAcyclic, IsOrdered, stands_as, type_occurrence}
-use Rattle.asn_names.specs.Occurrences.{names_in, names_of}
+use Rattle.asn_names.specs.Occurrences.{names_of}
+use Rattle.asn_unchanged.specs.Unchanged.{is_unchanged}
 
 -- ---- trees are decided
 
--- Every tree is decided under the type of a clean definition, where definitions have the forms of a text so far, within steps
+-- Every tree is decided under the type of a clean definition, where all definitions have basic forms, within steps
 -- computed from the tree and the heights of the names that the definition reaches.
 abbrev pub EveryTreeDecided : Type 0
 EveryTreeDecided =
@@ -39,11 +38,11 @@ NamesOccur =
     (o : Occurrence) → OccursIn (seen defs n) (ToDefinition name) o ↔ (x : List ℕ) × (o ≡ type_occurrence x) × Contains (names_of d) x
 
 -- Where all definitions have basic forms, the faults that linking finds are those that stand in the relation, and no other
--- stands: in a definition that does not need itself and whose ranges are no reversed ones.
+-- stands: in a definition that linking leaves as it is, that does not need itself and whose ranges are no reversed ones.
 abbrev pub FaultsStand : Type 0
 FaultsStand =
     (defs : Definitions) → AreBasic defs → (name : List ℕ) (d : ToplevelDefinition) → last_named defs name ≡ Some d →
-    IsAcyclic defs name → IsOrdered defs name →
+    is_unchanged d ≡ true → IsAcyclic defs name → IsOrdered defs name →
     (k : Fault) → FaultOf defs (ToDefinition name) k ↔ (f : Warned) × (fault_of defs d ≡ Some f) × (k ≡ stands_as f)
 
 -- ---- what linking gives
@@ -51,10 +50,6 @@ FaultsStand =
 -- The last definition of a name among the given ones is the last of the name in the reading, as linking gives it.
 abbrev pub LastIsGiven : Type 0
 LastIsGiven = (reading : List Module) (name : List ℕ) → IsGiven (last_named (definitions_of reading) name) (last_named (given_definitions reading) name)
-
--- Retagging changes no name in a type.
-abbrev pub RetaggingKeepsNames : Type 0
-RetaggingKeepsNames = (environment : TaggingEnvironment) (ty : ASN1Type) → names_in (retagged environment ty) ≡ names_in ty
 
 -- The linked definitions of a reading are those that stand of the given ones, and no other list is.
 abbrev pub StandingAreLinked : Type 0

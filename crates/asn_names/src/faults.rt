@@ -1,63 +1,69 @@
 //! What may be wrong with a definition.
 
-ghost use Rattle.asn_names.specs.Faults.{fault_of, is_missing};
-ghost use Rattle.asn_names.specs.Occurrences.{members_names, names_in};
+ghost use Rattle.asn_names.specs.Faults.{fault_of, is_missing, lack_of};
 ghost use Rattle.std.specs.List.{list_any};
-ghost use Rattle.std.specs.Prelude.{◌≡◌};
+ghost use Rattle.std.specs.Prelude.{◌≡◌, IfOk, map};
 
 use crate::names::Names;
-use asn_memory::List;
-use asn_tree::{ASN1Type, SequenceOrSetMember, ToplevelDefinition};
+use asn_memory::{Mem, OutOfMemory, Text};
+use asn_tree::ToplevelDefinition;
+use asn_unchanged::{is_unchanged, type_references};
+use std::alloc::Global;
 
 /// The faults of definitions, in the order in which they are judged.
 #[derive(Clone, Copy, Debug, PartialEq, Eq)]
 pub enum Fault {
     /// A name has no definition of the kind that its place needs.
     MissingDependency,
+    /// Linking would change the definition, and does not do so yet.
+    NotYetInplemented,
 }
 
 impl<'t> Names<'t> {
-    /// The first fault that stands in a definition.
-    pub fn fault(&self, definition: &ToplevelDefinition) -> Option<Fault>
-        ensures { result ≡ fault_of self.now.definitions.now definition.now }
+    /// The first fault that stands in a definition: it would be changed by linking, or a type reference in it has no definition of a
+    /// type.
+    ///
+    /// # Errors
+    ///
+    /// Want of memory alone.
+    pub fn fault(&self, alloc: Global, definition: &ToplevelDefinition) -> Mem<Option<Fault>>
+        ensures { IfOk result (λ fault. fault ≡ fault_of self.now.definitions.now definition.now) }
     {
-        match definition {
-            ToplevelDefinition::TypeDef(definition) => {
-                if self.is_missing_in(&definition.ty) {
-                    Some(Fault::MissingDependency)
-                } else {
-                    None
-                }
-            }
-            ToplevelDefinition::Value(_) => None,
-            ToplevelDefinition::Information(_) => None,
+        if is_unchanged(definition) {
+            Ok(self.lack(alloc, definition)?)
+        } else {
+            Ok(Some(Fault::NotYetInplemented))
         }
     }
 
-    /// Whether a name that occurs in the type stands for no type.
-    #[cycle(missing)]
-    fn is_missing_in(&self, ty: &ASN1Type) -> bool
-        ensures { result ≡ list_any (is_missing self.now.definitions.now) (names_in ty.now) }
+    /// What a definition lacks that linking leaves as it is.
+    fn lack(&self, alloc: Global, definition: &ToplevelDefinition) -> Mem<Option<Fault>>
+        ensures { IfOk result (λ fault. fault ≡ lack_of self.now.definitions.now definition.now) }
     {
-        match ty {
-            ASN1Type::Sequence(sequence) => self.is_missing_in_members(&sequence.members),
-            ASN1Type::ElsewhereDeclaredType(reference) => {
-                self.type_named(reference.identifier.as_str()).is_none()
-            }
-            _ => false,
+        let names = type_references(alloc, definition)?;
+        if self.lacks_one(names.as_slice()) {
+            Ok(Some(Fault::MissingDependency))
+        } else {
+            Ok(None)
         }
     }
 
-    /// The same of a list of members.
-    #[cycle(missing)]
-    fn is_missing_in_members(&self, members: &List<SequenceOrSetMember>) -> bool
-        ensures { result ≡ list_any (is_missing self.now.definitions.now) (members_names members.now) }
+    /// Whether one of the names stands for no type.
+    fn lacks_one(&self, names: &[&Text]) -> bool
+        ensures { result ≡ list_any (is_missing self.now.definitions.now) (map (λ n. n.now) names.now) }
     {
-        for member in members.as_slice() {
-            if self.is_missing_in(&member.ty) {
-                return true;
-            }
+        let mut lacks = false;
+        for name in names {
+            lacks = lacks | self.is_missing(name.as_str());
         }
-        false
+        lacks
+    }
+
+    /// Whether a name stands for no type.
+    #[tactic(auto, using(crate::proofs::Occurrences::none_copied))]
+    fn is_missing(&self, name: &str) -> bool
+        ensures { result ≡ is_missing self.now.definitions.now name.now }
+    {
+        self.type_named(name).is_none()
     }
 }

@@ -2,12 +2,13 @@
 //!
 //! They speak of the definitions in specs/ alone. The layers above stand on them: what they rewrite keeps its meaning.
 
-ghost use Rattle.asn_names.specs.Laws.{EveryTreeDecided, FaultsStand, LastIsGiven, LinkedDifferInTags, NamesOccur, RetaggingKeepsNames, StandingAreLinked};
+ghost use Rattle.asn_names.specs.Laws.{EveryTreeDecided, FaultsStand, LastIsGiven, LinkedDifferInTags, NamesOccur, StandingAreLinked};
 
 use asn_meaning::{environments_change_tags, heads_stay};
 
-/// Every tree is accepted or rejected by the type of a clean type definition, where definitions have the forms of a text so
-/// far: within steps computed from the tree and the heights, in the order of needs, of the names that the definition reaches.
+/// Every tree is accepted or rejected by the type of a clean type definition, where all definitions have basic forms
+/// (BOOLEAN, INTEGER, SEQUENCE and plain names of types, with ranges of numbers): within steps computed from the tree and
+/// the heights, in the order of needs, of the names that the definition reaches.
 pub fn every_tree_decided()
     ensures { EveryTreeDecided }
 {}
@@ -19,7 +20,7 @@ pub fn names_occur()
 {}
 
 /// Where definitions have basic forms, the faults that stand, by the relation over the whole notation, are those that linking
-/// finds: in a definition that does not need itself and has no reversed range.
+/// finds: in a definition that linking leaves as it is, that does not need itself and has no reversed range.
 pub fn faults_stand()
     ensures { FaultsStand }
 {
@@ -30,11 +31,6 @@ pub fn faults_stand()
 /// linking gives it.
 pub fn last_is_given()
     ensures { LastIsGiven }
-{}
-
-/// Retagging changes no name in a type.
-pub fn retagging_keeps_names()
-    ensures { RetaggingKeepsNames }
 {}
 
 /// The linked definitions of a reading are those that stand of the given ones, and no other list is.

@@ -13,6 +13,6 @@ mod names;
 pub use faults::Fault;
 pub use laws::{
     every_tree_decided, faults_stand, last_is_given, linked_differ_in_tags, names_occur,
-    retagging_keeps_names, standing_are_linked,
+    standing_are_linked,
 };
 pub use names::{LastPlace, Names};

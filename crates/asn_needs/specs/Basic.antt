@@ -1,5 +1,5 @@
--- Basic forms: those of a text so far, and little more. What stands on them stands on a premise that the last form to come
--- takes away.
+-- Basic forms: BOOLEAN, INTEGER, SEQUENCE and plain names of types, with ranges of numbers. What stands on them stands on a
+-- premise that each form which is added makes weaker, until none is left out.
 use Rattle.std.specs.Prelude.{◌≡◌, ℕ, zero, suc, List, [], ◌∷◌, Bool, true, false, ◌&&◌, is_none, Option, Some, None}
 use Rattle.std.specs.List.{All, list_all}
 use Rattle.asn_tree.specs.declared.constraints.Constraint.{Constraint, Constraint-F, out-Constraint}

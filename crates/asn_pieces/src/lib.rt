@@ -5,6 +5,7 @@
 //! owns one of those. The readers of types above call the readers of nodes; those of `readers.rt` are called by name.
 #![tactic(auto)]
 
+mod built;
 mod constraints;
 mod enumerations;
 mod fields;
@@ -16,6 +17,7 @@ mod tags;
 mod types;
 mod words;
 
+pub use built::asn_tag_at;
 pub use constraints::{read_brace_text, read_pattern, read_relations, read_user_defined};
 pub use enumerations::{WrittenItem, read_item_comment, read_items};
 pub use fields::{

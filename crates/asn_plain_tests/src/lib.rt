@@ -1,13 +1,14 @@
-//! Tests of the rooms below the trees: texts and lists, settings, numbers of enumerations, words, and the names of faults.
+//! Tests of what has no text to be read, beside which rows of data stand in the programs of rows: texts and lists, words, the
+//! names of faults, constants, and trees of errors.
 //!
-//! A room of its own beside them, so that these tests wait for no tree. One module for each topic.
+//! A crate of its own, so that these tests wait for no tree of the notation. One module for each topic.
 #![tactic(auto)]
 
 #[cfg(test)]
-mod memory;
+mod errors;
 #[cfg(test)]
-mod numbers;
+mod memory;
 #[cfg(test)]
 mod plain;
 #[cfg(test)]
-mod settings;
+mod words;

@@ -16,4 +16,3 @@ pub mod NodeEnds
 pub mod CleanRows
 pub mod Rows
 pub mod Asked
-pub mod AskedFirst

@@ -1,17 +1,17 @@
 -- In a text of characters, the children of a node that begins between two characters begin and end between two.
-use Rattle.std.proofs.Common.{◌≡◌, ℕ, zero, suc, ◌<◌, ◌≤◌, List, [], ◌∷◌, ◌++◌, Bool, true, false, length, refl, sym, subst, arith, ◌⊎◌, inl, inr}
+use Rattle.std.proofs.Common.{◌≡◌, ℕ, zero, suc, ◌≤◌, List, [], ◌∷◌, ◌++◌, Bool, true, false, length, refl, sym, subst, arith, ◌⊎◌, inl, inr}
 use Rattle.std.specs.Prelude.{◌&&◌, ◌||◌}
 use Rattle.std.specs.List.{list_all}
 use Rattle.std.specs.Str.{IsUtf8, IsCharBoundary}
-use Rattle.asn_rules.specs.Expression.{Expression, see, marked, seq, choice, many, never, guarded, rule, skip, Sight, rule_of}
+use Rattle.asn_rules.specs.Expression.{Expression, see, marked, seq, choice, many, never, guarded, rule, skip, rule_of}
 use Rattle.asn_rules.specs.Children.{AtCharacters, Grounds, by_row, by_mark, StandsBy}
 use Rattle.asn_rules.specs.Derives.{Derives, node, sees, leaves_mark, joins, takes, turns_to, repeats, idles, stops, misses, passes, stands, leaves_none}
-use Rattle.asn_rules.specs.Runs.{Ending, ends, fails, seen, Runs}
+use Rattle.asn_rules.specs.Runs.{ends}
 use Rattle.asn_rules.specs.Marks.{mark_number}
 use Rattle.asn_rules.specs.declared.node.Node.{Node}
 use Rattle.asn_rules.specs.declared.node.Node.TheOpen.{Node-F}
 use Rattle.asn_rules.specs.declared.node.Node.TheViews.{out-Node, out-roll-Node}
-use Rattle.asn_rules.proofs.Characters.{Course, halts, rests, open_ended, course, is_plain, clean, are_right, Between, High, sight_between, not_high, Follows, follows, between, row_clean}
+use Rattle.asn_rules.proofs.Characters.{Course, halts, rests, open_ended, course, is_plain, clean, are_right, Between, sight_between, not_high, Follows, follows, between, row_clean}
 use Rattle.asn_rules.proofs.Total.{checked}
 use Rattle.asn_guards.proofs.Booleans.{and_both, or_either}
 use Rattle.asn_rules.proofs.Trees.{ended_tree, within}

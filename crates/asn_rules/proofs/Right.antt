@@ -1,8 +1,7 @@
 -- The ranks are right: computed. What is computed are the numbers of the rules whose row is wrong.
-use Rattle.std.proofs.Common.{◌≡◌, ℕ, zero, suc, List, [], ◌∷◌, Bool, true, false, refl}
+use Rattle.std.proofs.Common.{◌≡◌, ℕ, suc, List, [], ◌∷◌, Bool, true, false, refl}
 use Rattle.std.specs.Prelude.{◌&&◌, ◌||◌, not}
 use Rattle.asn_rules.specs.Expression.{Expression}
-use Rattle.asn_rules.specs.First.{first, further}
 use Rattle.asn_rules.specs.LexicalRules.{lexical_rules_before}
 use Rattle.asn_rules.specs.ValueRules.{value_rules_before}
 use Rattle.asn_rules.specs.TypeRules.{type_rules_before}
@@ -11,7 +10,7 @@ use Rattle.asn_rules.specs.ObjectRules.{object_rules_before}
 use Rattle.asn_rules.specs.HeaderRules.{header_rules_before}
 use Rattle.asn_rules.specs.DefinitionRules.{definition_rules_before}
 use Rattle.asn_rules.specs.Whole.{whole_rules}
-use Rattle.asn_rules.proofs.Ranks.{first_takes, first_ranks, whole_takes, whole_ranks}
+use Rattle.asn_rules.proofs.Ranks.{whole_takes, whole_ranks}
 use Rattle.asn_rules.proofs.Total.{takes_byte, ranks_below, checked}
 
 abbrev noted : Bool → ℕ → List ℕ → List ℕ
@@ -37,13 +36,6 @@ none_wrong t ranks n [] [] (k ∷ ks) h = absurd cc
 none_wrong t ranks n [] (b ∷ bs) ks h = absurd cc
 none_wrong t ranks n (e ∷ es) [] ks h = absurd cc
 none_wrong t ranks n (e ∷ es) (b ∷ bs) [] h = absurd cc
-
-first_wrong : wrong_from first_takes first_ranks 0 first first_takes first_ranks ≡ []
-unfolding first further lexical_rules_before
-first_wrong = refl
-
-pub first_checked : checked first_takes first_ranks first first_takes first_ranks ≡ true
-first_checked = none_wrong first_takes first_ranks 0 first first_takes first_ranks first_wrong
 
 whole_wrong : wrong_from whole_takes whole_ranks 0 whole_rules whole_takes whole_ranks ≡ []
 unfolding whole_rules lexical_rules_before value_rules_before type_rules_before constraint_rules_before object_rules_before header_rules_before definition_rules_before

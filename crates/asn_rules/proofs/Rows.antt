@@ -12,7 +12,6 @@ use Rattle.asn_rules.specs.ConstraintRules.{constraint_rules_before}
 use Rattle.asn_rules.specs.ObjectRules.{object_rules_before}
 use Rattle.asn_rules.specs.HeaderRules.{header_rules_before}
 use Rattle.asn_rules.specs.DefinitionRules.{definition_rules_before}
-use Rattle.asn_rules.specs.First.{first, further}
 use Rattle.asn_rules.specs.Whole.{whole_rules}
 
 -- the rows of the whole of ASN.1 from each file on
@@ -111,16 +110,5 @@ are_whole : are_light whole_rules ≡ true
 unfolding whole_rules lexical_rules_before value_rules_before type_rules_before constraint_rules_before object_rules_before header_rules_before definition_rules_before
 are_whole = refl
 
-are_first : are_light first ≡ true
-unfolding first lexical_rules_before further
-are_first = refl
-
 pub whole_light : (e : coded.Expression) (r : ℕ) → expression e ≡ rule_of whole_rules r → weight (expression e) ≤ 999
 whole_light e r s = rw s (light whole_rules r are_whole)
-
-pub first_light : (e : coded.Expression) (r : ℕ) → expression e ≡ rule_of first r → weight (expression e) ≤ 999
-first_light e r s = rw s (light first r are_first)
-
-pub first_lexical : (r : ℕ) → rule_of first r ≡ rule_of (lexical_rules_before further) r
-unfolding first
-first_lexical r = refl

@@ -1,6 +1,5 @@
--- Both tables are made of modules: computed.
+-- The table is made of modules: computed.
 use Rattle.std.proofs.Common.{refl}
-use Rattle.asn_rules.specs.First.{first, further}
 use Rattle.asn_rules.specs.LexicalRules.{lexical_rules_before}
 use Rattle.asn_rules.specs.ValueRules.{value_rules_before}
 use Rattle.asn_rules.specs.TypeRules.{type_rules_before}
@@ -12,25 +11,10 @@ use Rattle.asn_rules.specs.Whole.{whole_rules}
 use Rattle.asn_rules.specs.Grammar.{rules_of}
 use Rattle.asn_rules.specs.Due.{header_pieces, body_pieces}
 use Rattle.asn_rules.specs.declared.grammar.Grammar.{Grammar}
-use Rattle.asn_rules.specs.declared.grammar.Grammar.TheVariants.{First, Whole}
-use Rattle.asn_rules.proofs.Ranks.{first_takes, first_ranks, whole_takes, whole_ranks}
-use Rattle.asn_rules.proofs.Right.{first_checked, whole_checked}
+use Rattle.asn_rules.specs.declared.grammar.Grammar.TheVariants.{Whole}
+use Rattle.asn_rules.proofs.Ranks.{whole_takes, whole_ranks}
+use Rattle.asn_rules.proofs.Right.{whole_checked}
 use Rattle.asn_rules.proofs.Shape.{IsOfModules}
-
-first_shape : IsOfModules first (header_pieces First) body_pieces
-unfolding first further lexical_rules_before
-first_shape = record {
-  takes = first_takes;
-  ranks = first_ranks;
-  ranked = first_checked;
-  header_row = refl;
-  module_row = refl;
-  text_row = refl;
-  blanks_end = refl;
-  module_takes = refl;
-  fit = refl;
-  first_is_part = refl;
-}
 
 whole_shape : IsOfModules whole_rules (header_pieces Whole) body_pieces
 unfolding whole_rules lexical_rules_before value_rules_before type_rules_before constraint_rules_before object_rules_before header_rules_before definition_rules_before
@@ -48,5 +32,4 @@ whole_shape = record {
 }
 
 pub shape_of : (grammar : Grammar) → IsOfModules (rules_of grammar) (header_pieces grammar) body_pieces
-shape_of First = first_shape
 shape_of Whole = whole_shape

@@ -8,7 +8,7 @@ use Rattle.asn_rules.specs.Runs.{Ending, ends, fails, seen, judged, Runs, seq_en
 use Rattle.asn_rules.specs.Runs as runs
 use Rattle.asn_rules.specs.inner.Answer.{at_height, raise, higher, then_from, or_else, turned, judge, turn, turns, expr_answer, call_answer, answer}
 use Rattle.asn_rules.specs.Derives.{Derives, OneTree, node, sees, leaves_mark, joins, takes, turns_to, repeats, idles, stops, misses, passes, stands, leaves_none, Derivation, Stand, ends_before, one_more}
-use Rattle.asn_rules.specs.inner.Grown.{leafless, with_leaf, IsWithinGrowth, without_nodes, of_outcome, after, then_grow, else_grow, turn_growth, kept, judge_growth, grow_turn, grow_turns, expr_growth, topped, call_growth, grown, plain}
+use Rattle.asn_rules.specs.inner.Grown.{Growth, End, Fail, TooDeep, leafless, with_leaf, without_nodes, of_outcome, after, then_grow, else_grow, turn_growth, kept, judge_growth, grow_turn, grow_turns, expr_growth, topped, call_growth, grown, plain}
 use Rattle.asn_guards.specs.declared.asked.Guard.{Guard}
 use Rattle.asn_rules.specs.declared.marks.Mark.{Mark}
 use Rattle.asn_rules.specs.Marks.{mark_number}
@@ -16,8 +16,6 @@ use Rattle.asn_rules.specs.declared.node.Node.{Node}
 use Rattle.asn_rules.specs.declared.node.Node.TheOpen.{Node-F}
 use Rattle.asn_rules.specs.declared.node.Node.TheViews.{out-Node, out-roll-Node}
 use Rattle.asn_rules.specs.declared.run.MatchFault.TheVariants as fault
-use Rattle.asn_rules.specs.declared.derive.Growth.{Growth}
-use Rattle.asn_rules.specs.declared.derive.Growth.TheVariants.{End, Fail, TooDeep}
 use Rattle.asn_rules.proofs.Theory.{Lies, seen_lies, runs_lies, complete, too_deep}
 
 opened_stand : (b k : ℕ) (n : Node) (ns : List Node) (x : Node-F Node) → out-Node n ≡ x → b ≤ x.start → x.start ≤ x.end → Stand x.start x.end x.children → Stand x.end k ns → Stand b k (n ∷ ns)
@@ -236,24 +234,10 @@ module _ (rules : List Expression) (text : List ℕ) where
   pub skip_grown : (d r i : ℕ) → grown rules text d (skip r) i ≡ of_outcome (answer rules text d (skip r) i)
   skip_grown d r i = without_is (call_growth rules text d r i) ∙ ap of_outcome (plain_call d r i)
 
-  leafless_is : (o : Ending) → leafless o 0 ≡ of_outcome (Ok (at_height o 0))
-  leafless_is (ends j) = refl
-  leafless_is fails = refl
-
-  pub see_grown : (d i : ℕ) (s : Sight) → grown rules text d (see s) i ≡ of_outcome (answer rules text d (see s) i)
-  see_grown d i s = leafless_is (seen text s i)
-
   turned_is : (i : ℕ) (x : Growth) → turn_growth i x ≡ of_outcome (turned i (plain x))
   turned_is i (End j h m) = refl
   turned_is i (Fail h) = refl
   turned_is i TooDeep = refl
-
-  pub never_grown : (d i : ℕ) (a : Expression) → grown rules text d (never a) i ≡ of_outcome (answer rules text d (never a) i)
-  never_grown d i a = turned_is i (grown rules text d a i) ∙ ap (λ x. of_outcome (turned i x)) (plain_grown d a i)
-
-  -- What is too deep to grow has a height above the depth.
-  pub too_deep_to_grow : (d : ℕ) (e : Expression) (i : ℕ) (o : Ending) (h : ℕ) → i ≤ length text → grown rules text d e i ≡ TooDeep → Runs rules text e i o h → d < h
-  too_deep_to_grow d e i o h le eq p = too_deep rules text d e i o h fault.TooDeep le (sym (plain_grown d e i) ∙ ap plain eq) p
 
   -- Enough turns are enough.
   ok_lies : (d : ℕ) (e : Expression) (i j h : ℕ) (m : List Node) → i ≤ length text → grown rules text d e i ≡ End j h m → j ≤ length text
@@ -284,13 +268,6 @@ module _ (rules : List Expression) (text : List ℕ) where
       ap (λ x. grow_turn i x (grow_turns step (length text - i))) e
       ∙ ap (λ b. if b then after h m (grow_turns step (length text - i) j) else End i h []) ((Decides-ltb i j).1 lt)
       ∙ ap (after h m) rest
-
-  -- What a call grows, and what it grows one level down.
-  pub call_grown : (d r i : ℕ) (e : Expression) (x : Growth) → 0 < d → e ≡ rule_of rules r → x ≡ grown rules text (d - 1) e i → topped r i x ≡ grown rules text d (rule r) i
-  call_grown zero r i e x lt same eq = absurd (omega arith)
-  call_grown (suc d) r i e x lt same eq =
-      let n : suc d - 1 ≡ d = omega arith in
-      ap (topped r i) (eq ∙ ap (λ k. grown rules text k e i) n ∙ ap (λ a. grown rules text d a i) same)
 
   -- What fails grows nothing, where the depth suffices.
   pub fail_grown : {e : Expression} {i h : ℕ} → Runs rules text e i fails h → i ≤ length text → (d : ℕ) → h ≤ d → grown rules text d e i ≡ Fail h
@@ -402,34 +379,3 @@ module _ (rules : List Expression) (text : List ℕ) where
 
   pub nodes_stand : (e : Expression) (i j : ℕ) (m : List Node) → i ≤ length text → Derives rules text e i j m → Stand i j m × (j ≤ length text)
   nodes_stand e i j m le p = (in_order p le, (within p le).1)
-
-  -- What a rule is made of, grown one level down, makes its derivation.
-  pub derivation_end : (d r i j h : ℕ) (e : Expression) (m : List Node) (x : Growth) → i ≤ length text → 0 < d → e ≡ rule_of rules r → x ≡ End j h m → x ≡ grown rules text (d - 1) e i → h ≤ d - 1 → Derivation rules text r i d (Ok (Some (node r i j m)))
-  derivation_end d r i j h e m x le lt same is eq low =
-      let g = subst (Grows (rule r) i) (sym (call_grown d r i e (End j h m) lt same (sym is ∙ eq))) (grows d (rule r) i le) in
-      (j, h + 1, g.0, omega arith, g.1)
-
-  pub derivation_fail : (d r i h : ℕ) (e : Expression) (x : Growth) → i ≤ length text → 0 < d → e ≡ rule_of rules r → x ≡ Fail h → x ≡ grown rules text (d - 1) e i → h ≤ d - 1 → Derivation rules text r i d (Ok None)
-  derivation_fail d r i h e x le lt same is eq low =
-      let g = subst (Grows (rule r) i) (sym (call_grown d r i e (Fail h) lt same (sym is ∙ eq))) (grows d (rule r) i le) in
-      (h + 1, g, omega arith)
-
-  pub derivation_deep : (d r i : ℕ) (e : Expression) (x : Growth) → i ≤ length text → 0 < d → e ≡ rule_of rules r → x ≡ TooDeep → x ≡ grown rules text (d - 1) e i → Derivation rules text r i d (Err fault.TooDeep)
-  derivation_deep d r i e x le lt same is eq = λ o h p. too_deep_to_grow d (rule r) i o h le (sym (call_grown d r i e TooDeep lt same (sym is ∙ eq))) p
-
-  pub derivation_none : (d r i : ℕ) → i ≤ length text → d ≡ 0 → Derivation rules text r i d (Err fault.TooDeep)
-  derivation_none zero r i le z = λ o h p. too_deep_to_grow zero (rule r) i o h le refl p
-  derivation_none (suc d) r i le z = absurd (omega arith)
-
--- what is seen ends within the text, with its leaf
-pub leaf_within : (text : List ℕ) (m : Mark) (s : Sight) (i d : ℕ) (g : Growth) → i ≤ length text → g ≡ with_leaf m i (seen text s i) → IsWithinGrowth (length text) d i g
-leaf_within text m s i d g le e = subst (IsWithinGrowth (length text) d i) (sym e) (go (seen text s i) (seen_lies [] text s i le))
-  where
-    go : (o : Ending) → Lies (length text) i o → IsWithinGrowth (length text) d i (with_leaf m i o)
-    go (ends j) l = (l.0, l.1, omega arith)
-    go fails l = omega arith
-
-pub after_after : (a b : ℕ) (m n : List Node) (x : Growth) → after a m (after b n x) ≡ after (max a b) (m ++ n) x
-after_after a b m n (End j h k) = ap (λ z. End j z (m ++ (n ++ k))) (omega arith) ∙ ap (End j (max (max a b) h)) (sym (append_assoc m n k))
-after_after a b m n (Fail h) = ap Fail (omega arith)
-after_after a b m n TooDeep = refl

@@ -5,7 +5,7 @@ use Rattle.asn_rules.specs.declared.due.ModulePart.TheVariants.{Name, Definition
 use Rattle.asn_rules.specs.declared.due.Piece as code
 use Rattle.asn_rules.specs.declared.due.Piece.TheVariants.{Optional, Required}
 use Rattle.asn_rules.specs.declared.grammar.Grammar.{Grammar}
-use Rattle.asn_rules.specs.declared.grammar.Grammar.TheVariants.{First, Whole}
+use Rattle.asn_rules.specs.declared.grammar.Grammar.TheVariants.{Whole}
 use Rattle.asn_rules.specs.declared.names.TheConstants.{ASSIGNMENT, DEFINITION, DEFINITIVE, END, ENVIRONMENTS, EXPORTS, IDENTIFIER, IMPORTS, SP}
 use Rattle.asn_rules.specs.Expression.{Expression, expression, many, rule, skip}
 use Rattle.asn_rules.specs.Forms.{keyword, maybe}
@@ -23,9 +23,6 @@ piece (Required part e) = required part (expression e.now)
 
 -- the pieces of a header, in order (X.680 13.1); what may stand between them differs
 abbrev pub header_pieces : Grammar → List Piece
-header_pieces First =
-    required Name (rule IDENTIFIER) ∷ required Definitions (keyword (codes "DEFINITIONS")) ∷ optional (rule ENVIRONMENTS) ∷
-    required Assignment (rule ASSIGNMENT) ∷ required Begin (keyword (codes "BEGIN")) ∷ []
 header_pieces Whole =
     required Name (rule IDENTIFIER) ∷ optional (maybe (rule DEFINITIVE)) ∷
     required Definitions (keyword (codes "DEFINITIONS")) ∷ optional (rule ENVIRONMENTS) ∷

@@ -8,7 +8,6 @@ pub mod ConstraintRules
 pub mod ObjectRules
 pub mod HeaderRules
 pub mod DefinitionRules
-pub mod First
 pub mod Whole
 pub mod Grammar
 pub mod Runs
@@ -16,7 +15,6 @@ pub mod Derives
 pub mod Nodes
 pub mod Valid
 pub mod Due
-pub mod Attempts
 pub mod RuleNames
 pub mod Children
 pub mod inner

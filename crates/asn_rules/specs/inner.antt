@@ -1,4 +1,3 @@
 -- What private contracts alone cite.
 pub mod Answer
 pub mod Grown
-pub mod Walks

@@ -1,32 +1,28 @@
 //! The grammars there are.
 //!
-//! The interpreters ask here for the expression of a rule; the tables themselves are `first.rt` and `whole.rt`.
+//! The interpreters ask here for the expression of a rule; the table itself is `whole.rt`.
 
 ghost use Rattle.std.specs.Prelude.{◌≡◌, ◌≤◌};
 ghost use Rattle.asn_rules.specs.Expression.{expression, rule_of, weight};
 ghost use Rattle.asn_rules.specs.Grammar.{rules_of};
 
 use crate::expression::Expression;
-use crate::first::first_expression;
 use crate::whole::whole_expression;
 
 /// A table of rules. A second edition will be a further variant.
 #[derive(Clone, Copy, Debug, PartialEq, Eq)]
 pub enum Grammar {
-    /// Modules of SEQUENCE, INTEGER with a range, BOOLEAN, and types declared elsewhere.
-    First,
     /// The whole of ASN.1.
     Whole,
 }
 
 /// The expression of a rule in the grammar; of a number that is no rule's, one that fails everywhere.
-#[tactic(auto, using(crate::proofs::Rows::first_light, crate::proofs::Rows::whole_light))]
+#[tactic(auto, using(crate::proofs::Rows::whole_light))]
 pub fn rule_expression(grammar: Grammar, rule: u8) -> &'static Expression
     ensures value { expression result.now ≡ rule_of (rules_of grammar) rule }
     ensures weight { weight (expression result.now) ≤ 999 }
 {
     match grammar {
-        Grammar::First => first_expression(rule),
         Grammar::Whole => whole_expression(rule),
     }
 }

@@ -1,6 +1,6 @@
 //! The tree of a text: a node for each rule that stands in it.
 //!
-//! `derive.rt` grows these, and the readers above ask them for their children.
+//! The packrat table grows these, and the readers above ask them for their children.
 
 ghost use Rattle.std.specs.Prelude.{◌≡◌, ◌<◌, ℕ, List as Sequence, map, IfOk, IfSome, IsSome};
 ghost use Rattle.asn_rules.specs.Children.{AllAre, Is, StandsBy};
@@ -15,12 +15,22 @@ use std::alloc::Global;
 /// A rule that stands in a text, and the rules that it called there, in the order of the text.
 ///
 /// It stands from the byte at `start` up to the one at `end`, which is no longer of it, both counted from 0.
-#[derive(Drop)]
 pub struct Node {
     pub rule: u8,
     pub start: usize,
     pub end: usize,
     pub children: List<Node>,
+}
+
+impl Drop for Node {
+    fn drop(self) {
+        let Node {
+            rule: _,
+            start: _,
+            end: _,
+            children: _,
+        } = self;
+    }
 }
 
 impl Node {

@@ -1,4 +1,4 @@
-//! The public calls: a rule is tried, or its tree is grown, at an offset of a text.
+//! The public calls: a rule is tried at an offset of a text.
 //!
 //! The readers above call these. The laws say that the answers are the only ones there are.
 
@@ -10,10 +10,9 @@ ghost use Rattle.asn_rules.specs.Children.{AtCharacters, StandsBy};
 ghost use Rattle.asn_rules.specs.Grammar.{rules_of};
 ghost use Rattle.asn_rules.specs.declared.node.Node.TheViews.{out-Node};
 ghost use Rattle.asn_rules.specs.Whole.{whole_rules};
-ghost use Rattle.asn_rules.specs.Derives.{Derivation, Derives, OneTree, Stand};
+ghost use Rattle.asn_rules.specs.Derives.{Derives, OneTree, Stand};
 
-use crate::derive::{Growth, grow};
-use crate::grammar::{Grammar, rule_expression};
+use crate::grammar::Grammar;
 use crate::node::Node;
 use crate::run::{MatchFault, Outcome, TooDeep, run_rule};
 use std::alloc::Global;
@@ -78,46 +77,6 @@ pub fn try_rule(
     match outcome_of(Grammar::Whole, text, rule, offset, depth) {
         Ok(outcome) => Ok(outcome),
         Err(_) => Err(MatchFault::TooDeep),
-    }
-}
-
-/// The tree of the rule at this offset, in bytes from the start of the text, where no more than `depth` calls lie
-/// within each other; None where the rule fails.
-///
-/// # Errors
-///
-/// `TooDeep` exactly where the height is above `depth`, want of memory aside; `OutOfMemory` where a growth was refused.
-pub fn derive_rule(
-    alloc: Global,
-    grammar: Grammar,
-    text: &str,
-    rule: RuleId,
-    offset: usize,
-    depth: usize,
-) -> Result<Option<Node>, MatchFault>
-    requires { offset ≤ length text.now }
-    ensures { Derivation (rules_of grammar) text.now rule.number offset depth result }
-{
-    if depth == 0 {
-        return Err(MatchFault::TooDeep);
-    }
-    let expr = rule_expression(grammar, rule.number);
-    match grow(alloc, grammar, text.as_bytes(), expr, offset, depth - 1) {
-        Ok(
-            Growth::End {
-                offset: end,
-                height: _,
-                nodes,
-            },
-        ) => Ok(Some(Node {
-            rule: rule.number,
-            start: offset,
-            end,
-            children: nodes,
-        })),
-        Ok(Growth::Fail { height: _ }) => Ok(None),
-        Ok(Growth::TooDeep) => Err(MatchFault::TooDeep),
-        Err(_) => Err(MatchFault::OutOfMemory),
     }
 }
 

@@ -9,7 +9,6 @@ use asn_tree::{ObjectIdentifierArc, ObjectIdentifierValue, RealValue};
 
 /// A value tree.
 #[cycle(tree)]
-#[derive(Drop)]
 pub enum Tree {
     /// The value of NULL (X.680 24).
     Null,
@@ -39,15 +38,42 @@ pub enum Tree {
     Opaque,
 }
 
+impl Drop for Tree {
+    #[cycle(tree)]
+    fn drop(self) {
+        match self {
+            Tree::Null => (),
+            Tree::Truth(_) => (),
+            Tree::Whole(_) => (),
+            Tree::Item(_) => (),
+            Tree::Real(_) => (),
+            Tree::Bits(_) => (),
+            Tree::Octets(_) => (),
+            Tree::Texted(_) => (),
+            Tree::Oid(_) => (),
+            Tree::Struct(_) => (),
+            Tree::Elements(_) => (),
+            Tree::Alternative(_, _) => (),
+            Tree::Opaque => (),
+        }
+    }
+}
+
 /// The members that are present: a map in which each name has the tree of its first field.
 pub type Members = List<Field>;
 
 /// A member that is present.
 #[cycle(tree)]
-#[derive(Drop)]
 pub struct Field {
     pub name: Text,
     pub tree: Tree,
+}
+
+impl Drop for Field {
+    #[cycle(tree)]
+    fn drop(self) {
+        let Field { name: _, tree: _ } = self;
+    }
 }
 
 /// One level of a value tree.

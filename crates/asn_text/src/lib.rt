@@ -22,6 +22,7 @@ mod until;
 
 pub use asn_markers::{ExtensionMarker, OptionalMarker, RangeSeperator};
 pub use asn_memory::{Box, List, Mem, OutOfMemory, Text};
+pub use asn_probe::{Probe, Steps};
 pub use asn_rules::ASN1_KEYWORDS;
 pub use bits::hex_to_bools;
 pub use errors::{

@@ -1,5 +1,4 @@
 pub mod Promised
-pub mod Plain
 pub mod Validity
 pub mod Judged
 pub mod Spelled

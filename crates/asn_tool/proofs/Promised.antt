@@ -4,12 +4,11 @@ use Rattle.std.specs.Prelude.{IfSome, String}
 use Rattle.std.specs.Global.{Global}
 use Rattle.asn_check.specs.declared.linked.Linked.{Linked}
 use Rattle.asn_check.specs.Linked.{IsLinkedOf}
-use Rattle.asn_first.specs.Whole.{IsReading}
-use Rattle.asn_names.specs.Definitions.{Module, definitions_of}
+use Rattle.asn_names.specs.Definitions.{Module}
 use Rattle.asn_rules.specs.Expression.{rule}
-use Rattle.asn_rules.specs.First.{first}
 use Rattle.asn_rules.specs.Runs.{Ending, ends, fails, ExactlyOne}
 use Rattle.asn_rules.specs.Valid.{Fails, IsDeeper, IsValid}
+use Rattle.asn_rules.specs.Whole.{whole_rules}
 use Rattle.asn_streams.specs.Sink.{Takes}
 use Rattle.asn_streams.specs.Stream.{StreamState}
 use Rattle.asn_streams.specs.Taking.{limit}
@@ -21,7 +20,6 @@ use Rattle.asn_tool.specs.Lines.{depth_line}
 use Rattle.asn_tool.specs.Run.{HasFailed, IsTaken, IsTooLong, IsNoUtf8, IsTooDeep, IsUnmatched, IsValidText, NoTrees, HasTrees, AreKnown, OfTaken, Course, Delivered, Ends}
 use Rattle.asn_tool.specs.Status.{line}
 use Rattle.asn_tool.specs.Words.{depth_of}
-use Rattle.asn_tool.proofs.Plain.{reading_plain}
 
 -- the status of what was to be written, or that of a write that failed
 abbrev Came : Status → List ℕ → StreamState → StreamState → Status → Type 0
@@ -40,10 +38,8 @@ came due Usage text sink sink' d = inl d
 came due OutOfMemory text sink sink' d = inl d
 
 -- the linked answer of a text means what is read
-means : (text : List ℕ) (reading : List Module) (linked : Linked) → IsReading text reading → IsLinkedOf reading linked → MeansWhatIsRead reading linked.definitions
-means text reading linked reads links name d is clean free =
-    let m = links.meaning name d is clean free in
-    (m.0, m.1, m.3.0 (reading_plain (definitions_of reading) text reads.1 reading reads.3 name d is), m.2)
+means : (reading : List Module) (linked : Linked) → IsLinkedOf reading linked → MeansWhatIsRead reading linked.definitions
+means reading linked links = links.meaning
 
 -- ---- a text is judged in one way
 
@@ -67,18 +63,18 @@ module _ (depth : ℕ) (text : List ℕ) where
   Short = length text < limit
 
   abbrev One : Type 0
-  One = (t : List ℕ) → ExactlyOne first t (rule 190) 0
+  One = (t : List ℕ) → ExactlyOne whole_rules t (rule 190) 0
 
   not_long : IsTooLong text → Short → ⊥
   not_long l s = absurd (omega (arith, l, s))
 
-  deep_fails : IsDeeper first text depth → Fails first text depth → ⊥
+  deep_fails : IsDeeper whole_rules text depth → Fails whole_rules text depth → ⊥
   deep_fails d f = absurd (omega (arith, d fails f.0 f.1, f.2))
 
-  deep_valid : IsDeeper first text depth → IsValid first text depth → ⊥
+  deep_valid : IsDeeper whole_rules text depth → IsValid whole_rules text depth → ⊥
   deep_valid d v = absurd (omega (arith, d (ends v.0) v.1 v.2, v.3))
 
-  fails_valid : One → Fails first text depth → IsValid first text depth → ⊥
+  fails_valid : One → Fails whole_rules text depth → IsValid whole_rules text depth → ⊥
   fails_valid one f v =
       let same : ◌≡◌ {A = Ending} fails (ends v.0) = ((one text).only fails (ends v.0) f.0 v.1 f.1 v.2).0 in
       absurd cc
@@ -254,7 +250,7 @@ module _ (words : List (String Global)) (source source' sink sink' : StreamState
         definitions = h.links.definitions;
         warned = h.links.warnings;
         faults = h.links.faults;
-        means = means taken reading linked h.reads h.links;
+        means = means reading linked h.links;
         status = is ∙ h.status_is;
       }
 
@@ -274,7 +270,7 @@ module _ (words : List (String Global)) (source source' sink sink' : StreamState
   abbrev Settled : ℕ → Type 0
   Settled depth = (ended.status ≡ OutOfMemory) ⊎ ((taken : List ℕ) × IsTaken source taken source' × Decides depth taken ended.status)
 
-  pub complete : ((t : List ℕ) → ExactlyOne first t (rule 190) 0) → (depth : ℕ) → depth_of words ≡ Some depth → (HasFailed source source' → ⊥) → (HasFailed sink sink' → ⊥) → Settled depth
+  pub complete : ((t : List ℕ) → ExactlyOne whole_rules t (rule 190) 0) → (depth : ℕ) → depth_of words ≡ Some depth → (HasFailed source source' → ⊥) → (HasFailed sink sink' → ⊥) → Settled depth
   complete one depth asked no_read no_write = go result
     where
       same : (d : ℕ) → depth_of words ≡ Some d → d ≡ depth

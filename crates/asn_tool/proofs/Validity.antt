@@ -1,6 +1,6 @@
 -- How long a text is, and one that does not match.
 use Rattle.std.proofs.Common.{ℕ, ◌<◌, ◌≤◌, List, length, refl, sym, subst, inl, inr, arith}
-use Rattle.asn_first.specs.Whole.{IsMatchingError}
+use Rattle.asn_modules.specs.Whole.{IsMatchingError}
 use Rattle.asn_text.specs.declared.report.LexerError.{LexerError}
 use Rattle.asn_tool.specs.declared.judging.Output.{Output}
 use Rattle.asn_tool.specs.declared.status.Status.TheVariants.{Matching}

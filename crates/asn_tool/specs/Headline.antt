@@ -7,7 +7,7 @@ use Rattle.asn_check.specs.Needed.{WarnsOfFaults}
 use Rattle.asn_check.specs.Warnings.{AreWarnings, said_by}
 use Rattle.asn_meaning.specs.Definitions.{type_named}
 use Rattle.asn_meaning.specs.Plain.{IsPlain}
-use Rattle.asn_first.specs.Whole.{IsMatchingError, IsReading}
+use Rattle.asn_modules.specs.Whole.{IsMatchingError, IsReading}
 use Rattle.asn_names.specs.Definitions.{Definitions, Module, definitions_of}
 use Rattle.asn_names.specs.Faults.{IsClean}
 use Rattle.asn_names.specs.Linked.{AreLinked}

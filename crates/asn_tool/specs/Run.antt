@@ -7,10 +7,10 @@ use Rattle.asn_check.specs.declared.linked.Linked.{Linked}
 use Rattle.asn_check.specs.Linked.{IsLinkedOf}
 use Rattle.asn_check.specs.Listing.{listing_of}
 use Rattle.asn_derivation.specs.Derivation.{report_of}
-use Rattle.asn_first.specs.Whole.{IsMatchingError, IsReading}
+use Rattle.asn_modules.specs.Whole.{IsMatchingError, IsReading}
 use Rattle.asn_names.specs.Definitions.{Module}
-use Rattle.asn_rules.specs.First.{first}
 use Rattle.asn_rules.specs.Valid.{Fails, IsDeeper, IsValid}
+use Rattle.asn_rules.specs.Whole.{whole_rules}
 use Rattle.asn_streams.specs.Faults.{HasCause}
 use Rattle.asn_streams.specs.Giving.{TakesFront}
 use Rattle.asn_streams.specs.Sink.{Takes}
@@ -53,19 +53,19 @@ pub record IsNoUtf8 (text : List ℕ) : Type 0 where
 pub record IsTooDeep (depth : ℕ) (text : List ℕ) : Type 0 where
   pub short : length text < limit
   pub utf8 : IsUtf8 text
-  pub deeper : IsDeeper first text depth
+  pub deeper : IsDeeper whole_rules text depth
 
 -- short enough and UTF-8, and none of the grammar, which is seen within the depth
 pub record IsUnmatched (depth : ℕ) (text : List ℕ) : Type 0 where
   pub short : length text < limit
   pub utf8 : IsUtf8 text
-  pub fails : Fails first text depth
+  pub fails : Fails whole_rules text depth
 
 -- The text is short enough, is UTF-8, and is one or more modules by the grammar, within the depth.
 pub record IsValidText (depth : ℕ) (text : List ℕ) : Type 0 where
   pub short : length text < limit
   pub utf8 : IsUtf8 text
-  pub matches : IsValid first text depth
+  pub matches : IsValid whole_rules text depth
 
 -- ---- the trees
 

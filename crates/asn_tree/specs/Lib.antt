@@ -2,7 +2,6 @@ pub mod Calls
 pub mod Folds
 pub mod Inductions
 pub mod Layers
-pub mod Listing
 pub mod MakingComponents
 pub mod MakingConstraints
 pub mod MakingObjects

@@ -12,7 +12,6 @@ use asn_settings::PropertySettings;
 
 /// A constraint on a type (X.680 49.6), or the arguments of the template that stands before it.
 #[cycle(tree)]
-#[derive(Drop)]
 pub enum Constraint {
     /// A set of values (X.680 50.1).
     SubtypeConstraint(ElementSet),
@@ -24,9 +23,20 @@ pub enum Constraint {
     ContentConstraint(ContentConstraint),
 }
 
+impl Drop for Constraint {
+    #[cycle(tree)]
+    fn drop(self) {
+        match self {
+            Constraint::SubtypeConstraint(_) => (),
+            Constraint::TableConstraint(_) => (),
+            Constraint::Parameter(_) => (),
+            Constraint::ContentConstraint(_) => (),
+        }
+    }
+}
+
 /// What a BIT STRING or OCTET STRING holds, or how it is encoded (X.682 11.1).
 #[cycle(tree)]
-#[derive(Drop)]
 pub enum ContentConstraint {
     /// An encoding of a value of this type.
     Containing(ASN1Type),
@@ -39,9 +49,22 @@ pub enum ContentConstraint {
     },
 }
 
+impl Drop for ContentConstraint {
+    #[cycle(tree)]
+    fn drop(self) {
+        match self {
+            ContentConstraint::Containing(_) => (),
+            ContentConstraint::EncodedBy(_) => (),
+            ContentConstraint::ContainingEncodedBy {
+                containing: _,
+                encoded_by: _,
+            } => (),
+        }
+    }
+}
+
 /// An argument of a template (X.683 9.5).
 #[cycle(tree)]
-#[derive(Drop)]
 pub enum Parameter {
     ValueParameter(ASN1Value),
     TypeParameter(ASN1Type),
@@ -49,14 +72,35 @@ pub enum Parameter {
     ObjectSetParameter(ObjectSet),
 }
 
+impl Drop for Parameter {
+    #[cycle(tree)]
+    fn drop(self) {
+        match self {
+            Parameter::ValueParameter(_) => (),
+            Parameter::TypeParameter(_) => (),
+            Parameter::InformationObjectParameter(_) => (),
+            Parameter::ObjectSetParameter(_) => (),
+        }
+    }
+}
+
 /// A constraint joined with others by set operators.
-#[derive(Drop)]
 pub struct CompositeConstraint {
     pub base_constraint: Box<Constraint>,
     /// The others in order, each behind its operator.
     pub operation: List<(SetOperator, Box<Constraint>)>,
     /// Whether an extension marker follows.
     pub extensible: bool,
+}
+
+impl Drop for CompositeConstraint {
+    fn drop(self) {
+        let CompositeConstraint {
+            base_constraint: _,
+            operation: _,
+            extensible: _,
+        } = self;
+    }
 }
 
 /// The components of a `WITH COMPONENTS` over the constraints of this notation.
@@ -66,7 +110,6 @@ pub type InnerTypeConstraint = InnerTypeConstraintOver<Constraint>;
 pub type ConstrainedComponent = ConstrainedComponentOver<Constraint>;
 
 /// A range of values, of which one value is a case.
-#[derive(Drop)]
 pub struct ValueConstraint {
     /// The lower end; None is MIN.
     pub min_value: Option<ASN1Value>,
@@ -76,12 +119,21 @@ pub struct ValueConstraint {
     pub extensible: bool,
 }
 
+impl Drop for ValueConstraint {
+    fn drop(self) {
+        let ValueConstraint {
+            min_value: _,
+            max_value: _,
+            extensible: _,
+        } = self;
+    }
+}
+
 /// A table constraint over the object fields of this notation.
 pub type TableConstraint = TableConstraintOver<InformationObjectFields>;
 
 /// A subtype element (X.680 51.1).
 #[cycle(tree)]
-#[derive(Drop)]
 pub enum SubtypeElement {
     /// A single value (X.680 51.2).
     SingleValue {
@@ -126,12 +178,42 @@ pub enum SubtypeElement {
     PropertySettings(PropertySettings),
 }
 
+impl Drop for SubtypeElement {
+    #[cycle(tree)]
+    fn drop(self) {
+        match self {
+            SubtypeElement::SingleValue {
+                value: _,
+                extensible: _,
+            } => (),
+            SubtypeElement::ContainedSubtype {
+                subtype: _,
+                extensible: _,
+            } => (),
+            SubtypeElement::ValueRange {
+                min: _,
+                max: _,
+                min_open: _,
+                max_open: _,
+                extensible: _,
+            } => (),
+            SubtypeElement::PermittedAlphabet(_) => (),
+            SubtypeElement::SizeConstraint(_) => (),
+            SubtypeElement::TypeConstraint(_) => (),
+            SubtypeElement::SingleTypeConstraint(_) => (),
+            SubtypeElement::MultipleTypeConstraints(_) => (),
+            SubtypeElement::PatternConstraint(_) => (),
+            SubtypeElement::UserDefinedConstraint(_) => (),
+            SubtypeElement::PropertySettings(_) => (),
+        }
+    }
+}
+
 /// An element set over the elements of this notation.
 pub type ElementSet = ElementSetOver<ElementOrSetOperation>;
 
 /// One element, or elements joined by set operators (X.680 50.1).
 #[cycle(tree)]
-#[derive(Drop)]
 pub enum ElementOrSetOperation {
     /// One element.
     Element(SubtypeElement),
@@ -139,11 +221,31 @@ pub enum ElementOrSetOperation {
     SetOperation(SetOperation),
 }
 
+impl Drop for ElementOrSetOperation {
+    #[cycle(tree)]
+    fn drop(self) {
+        match self {
+            ElementOrSetOperation::Element(_) => (),
+            ElementOrSetOperation::SetOperation(_) => (),
+        }
+    }
+}
+
 /// An element, an operator, and what stands behind it; operators group to the right (X.680 50.1).
 #[cycle(tree)]
-#[derive(Drop)]
 pub struct SetOperation {
     pub base: SubtypeElement,
     pub operator: SetOperator,
     pub operant: Box<ElementOrSetOperation>,
+}
+
+impl Drop for SetOperation {
+    #[cycle(tree)]
+    fn drop(self) {
+        let SetOperation {
+            base: _,
+            operator: _,
+            operant: _,
+        } = self;
+    }
 }

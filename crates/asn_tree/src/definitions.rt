@@ -13,7 +13,6 @@ use asn_memory::{List, Text};
 pub type Reading = List<(ModuleReference, List<ToplevelDefinition>)>;
 
 /// A definition.
-#[derive(Drop)]
 pub enum ToplevelDefinition {
     /// A type assignment (X.680 16.1).
     TypeDef(ToplevelTypeDefinition),
@@ -21,6 +20,16 @@ pub enum ToplevelDefinition {
     Value(ToplevelValueDefinition),
     /// An assignment of a class, an object or an object set (X.681 9.1, 11.1, 12.1).
     Information(ToplevelInformationDefinition),
+}
+
+impl Drop for ToplevelDefinition {
+    fn drop(self) {
+        match self {
+            ToplevelDefinition::TypeDef(_) => (),
+            ToplevelDefinition::Value(_) => (),
+            ToplevelDefinition::Information(_) => (),
+        }
+    }
 }
 
 impl ToplevelDefinition {
@@ -59,7 +68,6 @@ impl ToplevelDefinition {
 }
 
 /// A type definition.
-#[derive(Drop)]
 pub struct ToplevelTypeDefinition {
     /// The comments before it, joined by line feeds.
     pub comments: Text,
@@ -71,8 +79,20 @@ pub struct ToplevelTypeDefinition {
     pub index: Option<(usize, usize)>,
 }
 
+impl Drop for ToplevelTypeDefinition {
+    fn drop(self) {
+        let ToplevelTypeDefinition {
+            comments: _,
+            tag: _,
+            name: _,
+            ty: _,
+            parameterization: _,
+            index: _,
+        } = self;
+    }
+}
+
 /// A value definition.
-#[derive(Drop)]
 pub struct ToplevelValueDefinition {
     /// The comments before it, joined by line feeds.
     pub comments: Text,
@@ -85,8 +105,20 @@ pub struct ToplevelValueDefinition {
     pub index: Option<(usize, usize)>,
 }
 
+impl Drop for ToplevelValueDefinition {
+    fn drop(self) {
+        let ToplevelValueDefinition {
+            comments: _,
+            name: _,
+            associated_type: _,
+            parameterization: _,
+            value: _,
+            index: _,
+        } = self;
+    }
+}
+
 /// The definition of a class, an object or an object set.
-#[derive(Drop)]
 pub struct ToplevelInformationDefinition {
     /// The comments before it, joined by line feeds.
     pub comments: Text,
@@ -99,21 +131,46 @@ pub struct ToplevelInformationDefinition {
     pub index: Option<(usize, usize)>,
 }
 
+impl Drop for ToplevelInformationDefinition {
+    fn drop(self) {
+        let ToplevelInformationDefinition {
+            comments: _,
+            name: _,
+            parameterization: _,
+            class: _,
+            value: _,
+            index: _,
+        } = self;
+    }
+}
+
 /// The parameters of a definition (X.683 8.1).
-#[derive(Drop)]
 pub struct Parameterization {
     pub parameters: List<ParameterizationArgument>,
 }
 
+impl Drop for Parameterization {
+    fn drop(self) {
+        let Parameterization { parameters: _ } = self;
+    }
+}
+
 /// A dummy reference with its governor (X.683 8.1).
-#[derive(Drop)]
 pub struct ParameterizationArgument {
     pub dummy_reference: Text,
     pub param_governor: ParameterGovernor,
 }
 
+impl Drop for ParameterizationArgument {
+    fn drop(self) {
+        let ParameterizationArgument {
+            dummy_reference: _,
+            param_governor: _,
+        } = self;
+    }
+}
+
 /// What governs a dummy reference (X.683 8.1).
-#[derive(Drop)]
 pub enum ParameterGovernor {
     /// Nothing: the dummy stands for a type or a class.
     None,
@@ -121,4 +178,14 @@ pub enum ParameterGovernor {
     TypeOrClass(ASN1Type),
     /// A class.
     Class(Text),
+}
+
+impl Drop for ParameterGovernor {
+    fn drop(self) {
+        match self {
+            ParameterGovernor::None => (),
+            ParameterGovernor::TypeOrClass(_) => (),
+            ParameterGovernor::Class(_) => (),
+        }
+    }
 }

@@ -11,7 +11,6 @@ use asn_memory::{List, Text};
 use asn_syntax::{InformationObjectSyntax, ObjectFieldIdentifier};
 
 /// The class of an object or an object set.
-#[derive(Drop)]
 pub enum ClassLink {
     /// The class's name.
     ByName(Text),
@@ -19,8 +18,16 @@ pub enum ClassLink {
     ByReference(Text, InformationObjectClass),
 }
 
+impl Drop for ClassLink {
+    fn drop(self) {
+        match self {
+            ClassLink::ByName(_) => (),
+            ClassLink::ByReference(_, _) => (),
+        }
+    }
+}
+
 /// What an information definition defines.
-#[derive(Drop)]
 pub enum ASN1Information {
     /// A class (X.681 9.1).
     ObjectClass(InformationObjectClass),
@@ -30,9 +37,18 @@ pub enum ASN1Information {
     Object(InformationObject),
 }
 
+impl Drop for ASN1Information {
+    fn drop(self) {
+        match self {
+            ASN1Information::ObjectClass(_) => (),
+            ASN1Information::ObjectSet(_) => (),
+            ASN1Information::Object(_) => (),
+        }
+    }
+}
+
 /// An item of an object in its class's own syntax (X.681 11.6).
 #[cycle(tree)]
-#[derive(Drop)]
 pub enum SyntaxApplication {
     ObjectSetDeclaration(ObjectSet),
     ValueReference(ASN1Value),
@@ -44,8 +60,21 @@ pub enum SyntaxApplication {
     LiteralOrTypeReference(DeclarationElsewhere),
 }
 
+impl Drop for SyntaxApplication {
+    #[cycle(tree)]
+    fn drop(self) {
+        match self {
+            SyntaxApplication::ObjectSetDeclaration(_) => (),
+            SyntaxApplication::ValueReference(_) => (),
+            SyntaxApplication::TypeReference(_) => (),
+            SyntaxApplication::Comma => (),
+            SyntaxApplication::Literal(_) => (),
+            SyntaxApplication::LiteralOrTypeReference(_) => (),
+        }
+    }
+}
+
 /// A class (X.681 9.3).
-#[derive(Drop)]
 pub struct InformationObjectClass {
     /// Its fields in order.
     pub fields: List<InformationObjectClassField>,
@@ -53,8 +82,16 @@ pub struct InformationObjectClass {
     pub syntax: Option<InformationObjectSyntax>,
 }
 
+impl Drop for InformationObjectClass {
+    fn drop(self) {
+        let InformationObjectClass {
+            fields: _,
+            syntax: _,
+        } = self;
+    }
+}
+
 /// A field of a class (X.681 9.4).
-#[derive(Drop)]
 pub struct InformationObjectClassField {
     pub identifier: ObjectFieldIdentifier,
     /// The type of a value field, or the class of an object or object set field.
@@ -66,21 +103,50 @@ pub struct InformationObjectClassField {
     pub is_unique: bool,
 }
 
+impl Drop for InformationObjectClassField {
+    fn drop(self) {
+        let InformationObjectClassField {
+            identifier: _,
+            ty: _,
+            is_optional: _,
+            default: _,
+            is_unique: _,
+        } = self;
+    }
+}
+
 /// An object of a class (X.681 11.3).
-#[derive(Drop)]
 pub struct InformationObject {
     pub class_name: Text,
     pub fields: InformationObjectFields,
 }
 
+impl Drop for InformationObject {
+    fn drop(self) {
+        let InformationObject {
+            class_name: _,
+            fields: _,
+        } = self;
+    }
+}
+
 /// How an object gives its fields (X.681 11.4).
 #[cycle(tree)]
-#[derive(Drop)]
 pub enum InformationObjectFields {
     /// Each by its name (X.681 11.5).
     DefaultSyntax(List<InformationObjectField>),
     /// In the class's own syntax (X.681 11.6).
     CustomSyntax(List<SyntaxApplication>),
+}
+
+impl Drop for InformationObjectFields {
+    #[cycle(tree)]
+    fn drop(self) {
+        match self {
+            InformationObjectFields::DefaultSyntax(_) => (),
+            InformationObjectFields::CustomSyntax(_) => (),
+        }
+    }
 }
 
 /// An item of an object set over the object fields of this notation.
@@ -91,11 +157,21 @@ pub type ObjectSet = ObjectSetOver<InformationObjectFields>;
 
 /// A field that an object gives (X.681 11.5).
 #[cycle(tree)]
-#[derive(Drop)]
 pub enum InformationObjectField {
     TypeField(TypeField),
     FixedValueField(FixedValueField),
     ObjectSetField(ObjectSetField),
+}
+
+impl Drop for InformationObjectField {
+    #[cycle(tree)]
+    fn drop(self) {
+        match self {
+            InformationObjectField::TypeField(_) => (),
+            InformationObjectField::FixedValueField(_) => (),
+            InformationObjectField::ObjectSetField(_) => (),
+        }
+    }
 }
 
 /// A field that is a value of this notation.

@@ -1,5 +1,10 @@
 //! Types (X.680 clause 17).
 
+ghost use Rattle.asn_kinds.specs.declared.types.DeclarationElsewhereOver.{DeclarationElsewhereOver};
+ghost use Rattle.asn_tree.specs.declared.constraints.Constraint.{Constraint as OneConstraint};
+ghost use Rattle.asn_tree.specs.declared.types.ASN1Type.TheVariants as type;
+ghost use Rattle.std.specs.Prelude.{◌≡◌, IfErr, IfOk, OnErr};
+
 use crate::constraints::Constraint;
 use crate::objects::InformationObjectFieldReference;
 use crate::values::ASN1Value;
@@ -13,7 +18,6 @@ use asn_memory::{Box, List, Text};
 
 /// A type.
 #[cycle(tree)]
-#[derive(Drop)]
 pub enum ASN1Type {
     /// NULL (X.680 24.1).
     Null,
@@ -61,15 +65,67 @@ pub enum ASN1Type {
     External,
 }
 
+impl Drop for ASN1Type {
+    #[cycle(tree)]
+    fn drop(self) {
+        match self {
+            ASN1Type::Null => (),
+            ASN1Type::Boolean(_) => (),
+            ASN1Type::Integer(_) => (),
+            ASN1Type::Real(_) => (),
+            ASN1Type::BitString(_) => (),
+            ASN1Type::OctetString(_) => (),
+            ASN1Type::CharacterString(_) => (),
+            ASN1Type::Enumerated(_) => (),
+            ASN1Type::Choice(_) => (),
+            ASN1Type::Sequence(_) => (),
+            ASN1Type::SequenceOf(_) => (),
+            ASN1Type::Set(_) => (),
+            ASN1Type::SetOf(_) => (),
+            ASN1Type::Time(_) => (),
+            ASN1Type::GeneralizedTime(_) => (),
+            ASN1Type::UTCTime(_) => (),
+            ASN1Type::ElsewhereDeclaredType(_) => (),
+            ASN1Type::ChoiceSelectionType(_) => (),
+            ASN1Type::ObjectIdentifier(_) => (),
+            ASN1Type::InformationObjectFieldReference(_) => (),
+            ASN1Type::EmbeddedPdv => (),
+            ASN1Type::External => (),
+        }
+    }
+}
+
+impl ASN1Type {
+    /// Takes the reference out, where the type is one (X.680 17.3); else hands the type back.
+    pub fn into_reference(self) -> Result<DeclarationElsewhere, ASN1Type>
+        ensures found { IfOk result (λ reference. self ≡ type.ElsewhereDeclaredType reference) }
+        ensures returned { IfErr result (λ ty. ty ≡ self) }
+        ensures none { OnErr result ((reference : DeclarationElsewhereOver OneConstraint) → self ≡ type.ElsewhereDeclaredType reference → ⊥) }
+    {
+        match self {
+            ASN1Type::ElsewhereDeclaredType(reference) => Ok(reference),
+            other => Err(other),
+        }
+    }
+}
+
 /// BOOLEAN over the constraints of this notation.
 pub type Boolean = BooleanOver<Constraint>;
 
 /// INTEGER with its constraints.
-#[derive(Drop)]
 pub struct IntegerOver<C> {
     pub constraints: List<C>,
     /// The named numbers, where braces stand (X.680 19.1).
     pub distinguished_values: Option<List<DistinguishedValue>>,
+}
+
+impl<C: Drop> Drop for IntegerOver<C> {
+    fn drop(self) {
+        let IntegerOver {
+            constraints: _,
+            distinguished_values: _,
+        } = self;
+    }
 }
 
 /// INTEGER over the constraints of this notation.
@@ -107,7 +163,6 @@ pub type DeclarationElsewhere = DeclarationElsewhereOver<Constraint>;
 
 /// SEQUENCE OF or SET OF (X.680 26.1, 28.1).
 #[cycle(tree)]
-#[derive(Drop)]
 pub struct SequenceOrSetOf {
     pub constraints: List<Constraint>,
     /// The type of its elements.
@@ -116,9 +171,19 @@ pub struct SequenceOrSetOf {
     pub is_recursive: bool,
 }
 
+impl Drop for SequenceOrSetOf {
+    #[cycle(tree)]
+    fn drop(self) {
+        let SequenceOrSetOf {
+            constraints: _,
+            element_type: _,
+            is_recursive: _,
+        } = self;
+    }
+}
+
 /// SEQUENCE or SET (X.680 25.1, 27.1).
 #[cycle(tree)]
-#[derive(Drop)]
 pub struct SequenceOrSet {
     /// The names after `COMPONENTS OF`, in order.
     pub components_of: List<Text>,
@@ -131,6 +196,19 @@ pub struct SequenceOrSet {
     pub members: List<SequenceOrSetMember>,
 }
 
+impl Drop for SequenceOrSet {
+    #[cycle(tree)]
+    fn drop(self) {
+        let SequenceOrSet {
+            components_of: _,
+            components_at: _,
+            extensible: _,
+            constraints: _,
+            members: _,
+        } = self;
+    }
+}
+
 /// A component of a SEQUENCE or SET as it is written (X.680 25.1).
 #[derive(Drop)]
 pub enum SequenceComponent {
@@ -141,7 +219,6 @@ pub enum SequenceComponent {
 
 /// A member of a SEQUENCE or SET (X.680 25.1).
 #[cycle(tree)]
-#[derive(Drop)]
 pub struct SequenceOrSetMember {
     pub name: Text,
     pub tag: Option<AsnTag>,
@@ -155,9 +232,23 @@ pub struct SequenceOrSetMember {
     pub constraints: List<Constraint>,
 }
 
+impl Drop for SequenceOrSetMember {
+    #[cycle(tree)]
+    fn drop(self) {
+        let SequenceOrSetMember {
+            name: _,
+            tag: _,
+            ty: _,
+            default_value: _,
+            is_optional: _,
+            is_recursive: _,
+            constraints: _,
+        } = self;
+    }
+}
+
 /// CHOICE (X.680 29.1).
 #[cycle(tree)]
-#[derive(Drop)]
 pub struct Choice {
     /// How many options stand before the extension marker, where there is one.
     pub extensible: Option<usize>,
@@ -166,9 +257,19 @@ pub struct Choice {
     pub constraints: List<Constraint>,
 }
 
+impl Drop for Choice {
+    #[cycle(tree)]
+    fn drop(self) {
+        let Choice {
+            extensible: _,
+            options: _,
+            constraints: _,
+        } = self;
+    }
+}
+
 /// An option of a CHOICE (X.680 29.1).
 #[cycle(tree)]
-#[derive(Drop)]
 pub struct ChoiceOption {
     pub name: Text,
     pub tag: Option<AsnTag>,
@@ -177,4 +278,17 @@ pub struct ChoiceOption {
     pub constraints: List<Constraint>,
     /// Whether the option's type leads back to the CHOICE.
     pub is_recursive: bool,
+}
+
+impl Drop for ChoiceOption {
+    #[cycle(tree)]
+    fn drop(self) {
+        let ChoiceOption {
+            name: _,
+            tag: _,
+            ty: _,
+            constraints: _,
+            is_recursive: _,
+        } = self;
+    }
 }

@@ -9,7 +9,6 @@ use asn_words::{CharacterStringType, IntegerType, RealValue};
 /// A value. Its notation is often that of several types: the variants tell what stands in the text, and those that
 /// begin with `Linked` what it is under its type.
 #[cycle(tree)]
-#[derive(Drop)]
 pub enum ASN1Value {
     /// The word ALL.
     All,
@@ -80,14 +79,73 @@ pub enum ASN1Value {
     },
 }
 
+impl Drop for ASN1Value {
+    #[cycle(tree)]
+    fn drop(self) {
+        match self {
+            ASN1Value::All => (),
+            ASN1Value::Null => (),
+            ASN1Value::Boolean(_) => (),
+            ASN1Value::Choice {
+                type_name: _,
+                variant_name: _,
+                inner_value: _,
+            } => (),
+            ASN1Value::SequenceOrSet(_) => (),
+            ASN1Value::Integer(_) => (),
+            ASN1Value::Real(_) => (),
+            ASN1Value::String(_) => (),
+            ASN1Value::BitString(_) => (),
+            ASN1Value::BitStringNamedBits(_) => (),
+            ASN1Value::OctetString(_) => (),
+            ASN1Value::EnumeratedValue {
+                enumerated: _,
+                enumerable: _,
+            } => (),
+            ASN1Value::Time(_) => (),
+            ASN1Value::ElsewhereDeclaredValue {
+                parent: _,
+                identifier: _,
+            } => (),
+            ASN1Value::ObjectIdentifier(_) => (),
+            ASN1Value::LinkedNestedValue {
+                supertypes: _,
+                value: _,
+            } => (),
+            ASN1Value::LinkedIntValue {
+                integer_type: _,
+                value: _,
+            } => (),
+            ASN1Value::LinkedStructLikeValue(_) => (),
+            ASN1Value::LinkedArrayLikeValue(_) => (),
+            ASN1Value::LinkedCharStringValue(_, _) => (),
+            ASN1Value::LinkedElsewhereDefinedValue {
+                parent: _,
+                identifier: _,
+                can_be_const: _,
+            } => (),
+        }
+    }
+}
+
 /// The value of a field over the values of this notation.
 pub type StructLikeFieldValue = StructLikeFieldValueOver<ASN1Value>;
 
 /// A field of a value under a SEQUENCE or SET: its name, its type and its value.
 #[cycle(tree)]
-#[derive(Drop)]
 pub struct LinkedField {
     pub name: Text,
     pub ty: ASN1Type,
     pub value: StructLikeFieldValue,
+}
+
+impl Drop for LinkedField {
+    #[cycle(tree)]
+    fn drop(self) {
+        let LinkedField {
+            name: _,
+            ty: _,
+            value: _,
+        } = self;
+    }
 }

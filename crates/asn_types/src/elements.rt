@@ -155,7 +155,7 @@ fn read_size(alloc: Global, text: &[u8], node: &Node) -> Mem<SubtypeElement>
     ensures { IfOk result (λ element. size_of text.now node.now ≡ Some element) }
 {
     let lengths = read_set(alloc, text, node.the_child(names::ELEMENT_SET))?;
-    Ok(SubtypeElement::SizeConstraint(Box::new(alloc, lengths.set)?))
+    Ok(SubtypeElement::SizeConstraint(Box::new(alloc, lengths.into_set())?))
 }
 
 /// The characters of a string (X.680 51.7).

@@ -7,6 +7,7 @@
 #![tactic(auto)]
 
 mod arguments;
+mod built;
 mod choices;
 mod classes;
 mod constrained;
@@ -23,7 +24,11 @@ mod sets;
 mod types;
 
 pub use asn_pieces::{
-    asn_tag, distinguished_val, distinguished_values, optional_marker, set_operator,
+    asn_tag, asn_tag_at, distinguished_val, distinguished_values, optional_marker, set_operator,
+};
+pub use built::{
+    asn1_type_at, information_object_at, information_object_class_at, object_set_at,
+    parameterization_at, type_identifier_at,
 };
 pub use classes::{built_in_class, read_class};
 pub use dummies::read_parameterization;

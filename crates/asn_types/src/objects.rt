@@ -162,9 +162,9 @@ fn reference_item(reference: DeclarationElsewhere) -> SyntaxApplication
 fn type_item(ty: ASN1Type) -> SyntaxApplication
     ensures { result ≡ type_item ty }
 {
-    match ty {
-        ASN1Type::ElsewhereDeclaredType(reference) => reference_item(reference),
-        other => SyntaxApplication::TypeReference(other),
+    match ty.into_reference() {
+        Ok(reference) => reference_item(reference),
+        Err(other) => SyntaxApplication::TypeReference(other),
     }
 }
 

@@ -5,10 +5,12 @@
 #![tactic(auto)]
 
 mod braces;
+mod built;
 mod leaves;
 mod readers;
 
 pub use braces::read_value;
+pub use built::{asn1_value_at, object_identifier_value_at};
 pub use readers::{
     all_value, asn1_value, bit_string_value, boolean_value, character_string_value, choice_value,
     elsewhere_declared_value, integer_value, null_value, object_identifier_value, real_value,

@@ -1,7 +1,9 @@
 -- What a try with a table answers, and what is read off a table. Only private contracts cite these.
 use Rattle.std.specs.Prelude.{◌≡◌, ℕ, ◌≤◌, List, Ok, Err, IsSome}
+use Rattle.asn_rules.specs.Derives.{Derives}
 use Rattle.asn_rules.specs.Expression.{Expression}
 use Rattle.asn_rules.specs.Runs.{Answer, ends, Runs}
+use Rattle.asn_rules.specs.declared.node.Node.{Node}
 use Rattle.asn_rules.specs.declared.run.MatchFault.TheVariants.{TooDeep, OutOfMemory}
 use Rattle.asn_rules.specs.declared.run.Outcome.{Outcome}
 use Rattle.asn_rules.specs.declared.run.Outcome.TheVariants.{End, Fail}
@@ -28,3 +30,8 @@ pub record EndsWithin (rules : List Expression) (text : List ℕ) (most : ℕ) (
   pub height : ℕ
   pub runs : Runs rules text e i (ends j) height
   pub low : height ≤ most
+
+-- Where the one expression ends, the other ends too, and its nodes are the one's.
+pub record StandsFor (rules : List Expression) (text : List ℕ) (e other : Expression) (i : ℕ) : Type 0 where
+  pub ends_so : (h j : ℕ) → EndsWithin rules text h e i j → EndsWithin rules text h other i j
+  pub derives : (j : ℕ) (n : List Node) → Derives rules text other i j n → Derives rules text e i j n

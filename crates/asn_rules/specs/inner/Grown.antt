@@ -1,4 +1,4 @@
--- What a try at a limited depth grows. Only private contracts cite these.
+-- What a try at a limited depth grows. Only proofs cite these.
 use Rattle.std.specs.Prelude.{ℕ, zero, suc, ◌+◌, ◌-◌, ◌≤◌, max, List, [], ◌∷◌, ◌++◌, Ok, Err, length, nat_lt, if◌then◌else◌}
 use Rattle.asn_rules.specs.declared.marks.Mark.{Mark}
 use Rattle.asn_rules.specs.Marks.{mark_number}
@@ -9,8 +9,12 @@ use Rattle.asn_rules.specs.declared.run.Outcome.TheVariants as outcome
 use Rattle.asn_rules.specs.declared.run.MatchFault.TheVariants as fault
 use Rattle.asn_guards.specs.declared.asked.Guard.{Guard}
 use Rattle.asn_rules.specs.declared.node.Node.{Node}
-use Rattle.asn_rules.specs.declared.derive.Growth.{Growth}
-use Rattle.asn_rules.specs.declared.derive.Growth.TheVariants.{End, Fail, TooDeep}
+
+-- What a try grew: where it ended, its height and its nodes; the height at which it failed; or that the depth was too small.
+pub data Growth : Type 0 where
+  End : ℕ → ℕ → List Node → Growth
+  Fail : ℕ → Growth
+  TooDeep : Growth
 
 -- with no nodes
 abbrev pub leafless : Ending → ℕ → Growth
@@ -100,8 +104,3 @@ abbrev pub plain : Growth → Answer
 plain (End j h m) = Ok (outcome.End j h)
 plain (Fail h) = Ok (outcome.Fail h)
 plain TooDeep = Err fault.TooDeep
-
-abbrev pub IsWithinGrowth : ℕ → ℕ → ℕ → Growth → Type 0
-IsWithinGrowth length depth i (End j h m) = (i ≤ j) × (j ≤ length) × (h ≤ depth)
-IsWithinGrowth length depth i (Fail h) = h ≤ depth
-IsWithinGrowth length depth i TooDeep = Unit {0}

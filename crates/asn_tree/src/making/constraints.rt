@@ -162,8 +162,7 @@ impl SubtypeElement {
     pub fn size(alloc: Global, set: ElementSet) -> Mem<SubtypeElement>
         ensures { IfOk result (λ made. made ≡ SizeConstraint set.set) }
     {
-        let ElementSet { set, extensible: _ } = set;
-        Ok(SubtypeElement::SizeConstraint(Box::new(alloc, set)?))
+        Ok(SubtypeElement::SizeConstraint(Box::new(alloc, set.into_set())?))
     }
 }
 

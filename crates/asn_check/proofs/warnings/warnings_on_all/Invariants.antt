@@ -4,4 +4,4 @@ use Rattle.asn_names.specs.Definitions.{name_of}
 use Rattle.asn_check.proofs.warnings.warnings_on_all.Given as goal
 
 abbrev pub invariant-loop-definition : goal.invariant-loop-definition
-invariant-loop-definition l = map said_by l.warnings ++ warnings_of l.names.definitions.now (map name_of (drop l.definition-index l.definitions)) ≡ warnings_of l.names.definitions.now (map name_of l.definitions)
+invariant-loop-definition l = map said_by l.warnings ++ warnings_of l.names.definitions.now (map (λ d. name_of d.now) (drop l.definition-index l.definitions)) ≡ warnings_of l.names.definitions.now (map (λ d. name_of d.now) l.definitions)

@@ -27,9 +27,6 @@ decreases-grow_rule l = l.height * 2000 + 1
 abbrev pub decreases-grow_sequence : goal.decreases-grow_sequence
 decreases-grow_sequence l = l.height * 2000 + 2 * (weight (expression l.left.now) + weight (expression l.right.now)) + 1
 
-abbrev pub decreases-grow_choice : goal.decreases-grow_choice
-decreases-grow_choice l = l.height * 2000 + 2 * (weight (expression l.left.now) + weight (expression l.right.now)) + 1
-
 abbrev pub decreases-grow_guarded : goal.decreases-grow_guarded
 decreases-grow_guarded l = l.height * 2000 + 2 * weight (expression l.inner.now) + 1
 

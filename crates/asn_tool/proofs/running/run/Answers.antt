@@ -1,5 +1,5 @@
 use Rattle.std.proofs.Common.{refl, arith}
-use Rattle.asn_rules.specs.declared.grammar.Grammar.TheVariants.{First}
+use Rattle.asn_rules.specs.declared.grammar.Grammar.TheVariants.{Whole}
 use Rattle.asn_tool.proofs.Promised.{usage, misused, read_fault, read_failed, write_fault, write_failed, too_long, not_utf8, too_deep, matching, headline, complete, one_line}
 use Rattle.asn_tool.proofs.running.run.Goals as goal
 
@@ -8,7 +8,7 @@ returns g c =
     let e = c.run_through.ensures.ends in
     record {
       headline = headline _ _ _ _ _ _ e;
-      complete = complete _ _ _ _ _ _ e (λ t. c.one_outcome.ensures First t 190 0 (omega arith));
+      complete = complete _ _ _ _ _ _ e (λ t. c.one_outcome.ensures Whole t 190 0 (omega arith));
       usage = usage _ _ _ _ _ _ e;
       misused = misused _ _ _ _ _ _ e;
       unread = c.run_through.ensures.unread;

@@ -1,0 +1,9 @@
+use Rattle.std.proofs.Common.{◌∙◌}
+use Rattle.asn_names.specs.Definitions.{definitions_of}
+use Rattle.asn_check.proofs.Warned.{judged}
+use Rattle.asn_check.proofs.link.judge.Goals as goal
+
+pub returns : goal.returns
+returns c =
+    judged c.warnings_are_due.ensures (definitions_of c.args.reading.now) c.in_ok-names.names.definitions.now c.in_ok-standing.standing c.as_slice.result.now _
+    (c.in_ok-names.ensures ∙ c.in_ok-definitions.ensures) c.as_slice.ensures c.in_ok-standing.ensures c.in_ok-warnings.ensures

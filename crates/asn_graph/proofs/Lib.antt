@@ -1,0 +1,11 @@
+pub mod Builds
+pub mod Closing
+pub mod Ends
+pub mod Leaves
+pub mod Lists
+pub mod Needs
+pub mod OneStep
+pub mod Orders
+pub mod Passes
+pub mod TablesTold
+pub mod Visits

@@ -1,0 +1,10 @@
+pub mod Parts
+pub mod LongWords
+pub mod Words
+pub mod Values
+pub mod Constraints
+pub mod Types
+pub mod Objects
+pub mod Texts
+pub mod Definitions
+pub mod inner

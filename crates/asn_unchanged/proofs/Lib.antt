@@ -1,0 +1,5 @@
+pub mod Inductions
+pub mod Singles
+pub mod Stays
+pub mod Steady
+pub mod Parts

@@ -1,0 +1,172 @@
+//! A text read by the whole notation: the report of where it stops to match, and what the names in it stand for.
+
+use crate::out::{Fault, Told, say, write_number};
+use crate::rows::Row;
+use crate::trees::write_listed;
+use asn_derivation::SpecError;
+use asn_memory::{List, Mem, OutOfMemory};
+use asn_modules::asn_spec;
+use asn_names::{Fault as NameFault, Names};
+use asn_text::{LexerError, LexerErrorType, ReportData};
+use asn_tree::{Reading, ToplevelDefinition};
+use std::alloc::Global;
+
+/// The most calls of rules that may lie within each other, where the row has no number.
+const DEPTH: usize = 512;
+
+fn depth_of(row: &Row) -> usize {
+    if row.number == 0 { DEPTH } else { row.number }
+}
+
+// ---- places
+
+/// Writes all of a report.
+fn write_report(alloc: Global, out: &mut Vec<u8>, report: &ReportData) -> Told<()> {
+    say(out, "line ")?;
+    write_number(alloc, out, report.line)?;
+    say(out, " column ")?;
+    write_number(alloc, out, report.column)?;
+    say(out, " offset ")?;
+    write_number(alloc, out, report.offset)?;
+    say(out, ", from line ")?;
+    write_number(alloc, out, report.context_start_line)?;
+    say(out, " offset ")?;
+    write_number(alloc, out, report.context_start_offset)?;
+    say(out, ": ")?;
+    say(out, report.reason)?;
+    say(
+        out,
+        if report.unexpected_eof {
+            ", at the end\n"
+        } else {
+            "\n"
+        },
+    )
+}
+
+fn write_read(alloc: Global, out: &mut Vec<u8>, read: &Result<Reading, SpecError>) -> Told<()> {
+    match read {
+        Ok(_) => say(out, "read\n"),
+        Err(SpecError::Lexer(told)) => write_told(alloc, out, told),
+        Err(SpecError::TooDeep) => say(out, "too deep\n"),
+        Err(SpecError::OutOfMemory) => Err(Fault::OutOfMemory),
+    }
+}
+
+fn write_told(alloc: Global, out: &mut Vec<u8>, told: &LexerError) -> Told<()> {
+    let LexerErrorType::MatchingError(report) = &told.kind;
+    write_report(alloc, out, report)
+}
+
+/// Writes where a text stops to match.
+pub(crate) fn write_place(alloc: Global, out: &mut Vec<u8>, row: &Row, text: &[u8]) -> Told<()> {
+    match std::str::from_utf8(text) {
+        Ok(text) => write_read(alloc, out, &asn_spec(alloc, text, depth_of(row))),
+        Err(_) => Err(Fault::Unknown),
+    }
+}
+
+// ---- names
+
+/// The definitions of all modules, in order.
+fn definitions_of(
+    alloc: Global,
+    read: Result<Reading, SpecError>,
+) -> Mem<List<ToplevelDefinition>> {
+    match read {
+        Ok(reading) => joined(alloc, reading),
+        Err(_) => Err(OutOfMemory),
+    }
+}
+
+fn joined(alloc: Global, reading: Reading) -> Mem<List<ToplevelDefinition>> {
+    let mut all = List::new(alloc);
+    for (_, definitions) in reading.into_vec() {
+        all.append(definitions)?;
+    }
+    Ok(all)
+}
+
+fn write_found(
+    alloc: Global,
+    out: &mut Vec<u8>,
+    word: &str,
+    found: Option<&ToplevelDefinition>,
+) -> Told<()> {
+    say(out, word)?;
+    match found {
+        Some(definition) => write_listed(alloc, out, definition),
+        None => say(out, "nothing"),
+    }
+}
+
+/// Writes what a name stands for.
+fn write_name(alloc: Global, out: &mut Vec<u8>, names: &Names, name: &str) -> Told<()> {
+    say(out, name)?;
+    write_found(alloc, out, " stands for ", names.see(name))?;
+    write_found(alloc, out, "; last defined as ", names.last_named(name))?;
+    match names.type_named(name) {
+        Some(definition) => {
+            say(out, "; a type of the name ")?;
+            say(out, definition.name.as_str())?;
+        }
+        None => say(out, "; no type")?,
+    }
+    say(
+        out,
+        if names.is_duplicate(name) {
+            "; repeated\n"
+        } else {
+            "; not repeated\n"
+        },
+    )
+}
+
+fn fault_word(fault: Option<NameFault>) -> &'static str {
+    match fault {
+        None => "",
+        Some(NameFault::MissingDependency) => " (MissingDependency)",
+        Some(NameFault::NotYetInplemented) => " (NotYetInplemented)",
+    }
+}
+
+/// Writes the definitions that stand, each with its fault.
+fn write_standing(
+    alloc: Global,
+    out: &mut Vec<u8>,
+    names: &Names,
+    standing: &[&ToplevelDefinition],
+) -> Told<()> {
+    say(out, "standing")?;
+    for definition in standing {
+        say(out, " ")?;
+        say(out, definition.name().as_str())?;
+        say(out, fault_word(names.fault(alloc, definition)?))?;
+    }
+    say(out, "\n")
+}
+
+fn write_all_names(
+    alloc: Global,
+    out: &mut Vec<u8>,
+    row: &Row,
+    definitions: &List<ToplevelDefinition>,
+) -> Told<()> {
+    let names = Names::new(alloc, definitions)?;
+    for name in row.names.as_slice() {
+        write_name(alloc, out, &names, name)?;
+    }
+    let standing = names.standing(alloc)?;
+    write_standing(alloc, out, &names, standing.as_slice())
+}
+
+/// Writes what the names that the row asks for stand for in the text, and which definitions stand.
+pub(crate) fn write_names(alloc: Global, out: &mut Vec<u8>, row: &Row, text: &[u8]) -> Told<()> {
+    match std::str::from_utf8(text) {
+        Ok(text) => {
+            let definitions = definitions_of(alloc, asn_spec(alloc, text, depth_of(row)))?;
+            write_all_names(alloc, out, row, &definitions)
+        }
+        Err(_) => Err(Fault::Unknown),
+    }
+}
