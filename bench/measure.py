@@ -1,9 +1,10 @@
 #!/usr/bin/env python3
 """Times a program on growing texts, and prints tables: measure.py PROGRAM.
 
-The first table is over texts of 10 KB, 100 KB and 1 MB of all forms, the second over chains of 1,000, 10,000 and
+The first table is over texts of 10 KB, 100 KB and 1 MB of small types, the second over chains of 1,000, 10,000 and
 100,000 definitions, each of which names the next: looking names up takes the most time there. The third is over texts of
-100 KB and 1 MB that are nearly all blanks, comments, one name, or comments that are not closed.
+100 KB and 1 MB that are nearly all blanks, comments, one name, or comments that are not closed. The fourth is over the shapes
+of usual modules of the whole notation at 100 KB, 1 MB and 2 MB, and the last over constraints, components and types in each other.
 
 run.sh calls it. The best of five runs counts. Peak memory is that of one further run, as GNU time tells it.
 """
@@ -16,11 +17,14 @@ import time
 
 from make_chain import chain
 from make_lexical import KINDS
+from make_shapes import DEFINITIONS, text as shape_text
 from make_text import text
 
 SIZES = (10_000, 100_000, 1_000_000)
 NAMES = (1_000, 10_000, 100_000)
 LEXICAL_SIZES = (100_000, 1_000_000)
+SHAPE_SIZES = (100_000, 1_000_000, 2_000_000)
+DEPTHS = (16, 60, 200)
 RUNS = 5
 GNU_TIME = "/usr/bin/time"
 # Clean, and with warnings: the two statuses of a text that was read and linked.
@@ -81,6 +85,49 @@ def print_lexical_table(command, folder):
             print(f"{kind:>22} {length:>9} {status:>6} {best * 1e3:>9.2f} {best * 1e9 / length:>9.1f}")
 
 
+def print_shapes(command, folder):
+    """Three rows for each shape of usual modules."""
+    for shape in DEFINITIONS:
+        print()
+        print(shape)
+        print_table([row(command, shape_text(shape, size), folder) for size in SHAPE_SIZES])
+
+
+NESTED = {
+    "SIZE in SIZE": lambda depth: "A ::= INTEGER (" + "SIZE(" * depth + "1" + ")" * depth + ")",
+    "SIZE in SIZE, not closed": lambda depth: "A ::= INTEGER (" + "SIZE(" * depth,
+    "WITH COMPONENT": lambda depth: "A ::= B (" + "WITH COMPONENT (" * depth + "1" + ")" * depth + ")",
+    "braces": lambda depth: "a B ::= " + "{" * depth + "}" * depth,
+    "SEQUENCE in SEQUENCE": lambda depth: "A ::= " + "SEQUENCE { a " * depth + "NULL" + " }" * depth,
+    "arguments": lambda depth: "A ::= " + "T {" * depth + "NULL" + "}" * depth,
+}
+
+
+def print_nested(command, folder):
+    """A row for each form in itself and each depth. A status of 2 or 3 is that of a text that does not match, or is too deep."""
+    print()
+    print(f"{'nested':>25} {'depth':>6} {'bytes':>7} {'status':>6} {'best ms':>9} {'peak KB':>9}")
+    for kind, make in NESTED.items():
+        for depth in DEPTHS:
+            content = f"M DEFINITIONS ::= BEGIN {make(depth)} END\n"
+            length, status, best, peak = row(command, content, folder)
+            print(f"{kind:>25} {depth:>6} {length:>7} {status:>6} {best * 1e3:>9.2f} {peak:>9}")
+
+
+def print_long(command, folder):
+    """One enumeration of 40,000 items, and 50,000 definitions of one name."""
+    items = ", ".join(f"item-{place}" for place in range(40_000))
+    texts = {
+        "40,000 items": f"A ::= ENUMERATED {{ {items} }}",
+        "50,000 of one name": "A ::= NULL " * 50_000,
+    }
+    print()
+    print(f"{'long':>25} {'bytes':>9} {'status':>6} {'best ms':>9} {'peak KB':>9}")
+    for kind, content in texts.items():
+        length, status, best, peak = row(command, f"M DEFINITIONS ::= BEGIN {content} END\n", folder)
+        print(f"{kind:>25} {length:>9} {status:>6} {best * 1e3:>9.2f} {peak:>9}")
+
+
 def main():
     if len(sys.argv) != 2:
         sys.exit("usage: measure.py PROGRAM")
@@ -92,6 +139,9 @@ def main():
         print_table([row(command, chain(count), folder) for count in NAMES])
         print()
         print_lexical_table(command, folder)
+        print_shapes(command, folder)
+        print_long(command, folder)
+        print_nested([sys.argv[1], "link", "--depth", "2000"], folder)
 
 
 if __name__ == "__main__":
