@@ -1,11 +1,5 @@
 #!/usr/bin/env bash
-# Runs the program on standard input: link.sh [WORD..] < MODULES. With no word it is run under the word `link`.
-#
-#     link.sh --build             proves and builds the program, and says on standard error how far it is
-#     link.sh --build WORD..      the same, and then runs it under these words
-#
-# Standard output and status are the program's. While no program is built of the sources as they stand, the code runs as
-# it is, unproved, and one line on standard error says so. Where link.sh itself fails, the status is 70.
+# Runs the program on standard input: `link.sh --help` tells how, by the function `help` below.
 set -u
 here=$(cd "$(dirname "$0")" && pwd)
 program=$here/crates/link/out/link
@@ -14,9 +8,66 @@ logs=$here/out/build
 # No run reads further.
 limit=2097153
 
-fail() {
+say() {
     echo "link.sh: $*" >&2
+}
+
+fail() {
+    say "$*"
     exit 70
+}
+
+help() {
+    cat << 'END'
+link.sh reads ASN.1 modules on standard input, links them, and writes a line for each definition and each warning.
+
+    ./link.sh < FILE                      runs the program under the word link
+    ./link.sh link --depth N < FILE       the same, with rules at most N deep in each other: 1 to 2000, 512 without the word
+    ./link.sh --build                     proves and builds the program, an hour or two, and says how far it is
+    ./link.sh --build WORD.. < FILE       the same, and then runs it under these words
+    ./link.sh --help | --version          this page | what the program is
+
+While no program is built of the sources as they stand, each run compiles them, about a minute, and runs them unproved.
+
+    Status  Answer on standard output
+    0       the listing, without a warning
+    1       the listing, with warnings
+    2       error matching line L column C: the text is no modules by the grammar
+    3       error depth N: its rules lie deeper in each other than N
+    4       error utf8: the bytes are no UTF-8
+    5       error long: the text has more than 2,097,152 bytes
+    6       error read: a read failed
+    7       a front of what was to be written: a write failed
+    8       error usage: the words are none of the above
+    9       error memory: memory was wanting
+    70      nothing: link.sh itself failed, and tells why on standard error
+END
+}
+
+version() {
+    echo "link: the front half of rasn-compiler 0.7.5, parser and linker of ASN.1 modules, in Rattle"
+    if command -v rt > /dev/null; then
+        echo "kit: $(rt version)"
+    fi
+}
+
+# Whether the program knows these words: `link`, or `link --depth N`.
+are_known() {
+    local LC_ALL=C
+    [ "${1-}" = link ] || return
+    [ $# -ne 1 ] || return 0
+    [ $# -eq 3 ] && [ "$2" = --depth ] && [[ $3 =~ ^[1-9][0-9]{0,3}$ ]] && [ "$3" -le 2000 ]
+}
+
+# The program's own answer to other words, at once. Where a word is a file, or one was meant, standard error says how it is read.
+misused() {
+    local word
+    for word in "$@"; do
+        [ ! -f "$word" ] || say "the text comes on standard input: ./link.sh < $word"
+    done
+    say "the words are none that the program knows: ./link.sh --help lists them"
+    echo "error usage" || exit 7
+    exit 8
 }
 
 # The crates of the repository that the program stands on, each behind those that it uses, and the program last.
@@ -56,14 +107,14 @@ is_built() {
 build_crate() {
     local number=$1 of=$2 crate=$3 log=$logs/$3.log
     shift 3
-    echo "link.sh: $crate, crate $number of $of, after $((SECONDS / 60)) min" >&2
+    say "$crate, crate $number of $of, after $((SECONDS / 60)) min"
     (cd "$here/crates/$crate" && exec "$@") < /dev/null > "$log" 2>&1 &
     running=$!
     local waited=0
     while kill -0 "$running" 2> /dev/null; do
         sleep 1
         waited=$((waited + 1))
-        [ $((waited % 60)) -ne 0 ] || echo "link.sh: $crate, crate $number of $of, after $((SECONDS / 60)) min" >&2
+        [ $((waited % 60)) -ne 0 ] || say "$crate, crate $number of $of, after $((SECONDS / 60)) min"
     done
     wait "$running"
 }
@@ -80,6 +131,7 @@ build() {
     SECONDS=0
     mkdir -p "$logs"
     read -r -d '' -a crates < <(crates_of_program)
+    say "proving and building ${#crates[@]} crates: an hour or two is usual, with four processors that nothing else takes"
     # Each crate is built in a process group of its own, which ends with this script.
     set -m
     running=
@@ -97,7 +149,7 @@ build() {
     done
     trap - INT TERM
     sum_of_program > "$record"
-    echo "link.sh: built after $((SECONDS / 60)) min: $program" >&2
+    say "built after $((SECONDS / 60)) min: $program"
 }
 
 # Runs the code as it is. `rt try` gives the program's output when it has ended, and tells on standard error how it did.
@@ -106,6 +158,7 @@ run_unproved() {
     folder=$(mktemp -d) || fail "no folder for the text"
     trap 'rm -rf "$folder"' EXIT
     head -c "$limit" > "$folder/text"
+    say "compiling, about a minute"
     (cd "$here/crates/link" && exec rt try --seconds 600 -- "$@") \
         < "$folder/text" > "$folder/output" 2> "$folder/told"
     status=$?
@@ -117,17 +170,33 @@ run_unproved() {
     fail "the code gave no answer as it is: ./link.sh --build proves and builds it"
 }
 
-command -v rt > /dev/null || [ -x "$program" ] || fail "there is no command rt on the path"
+case "$*" in
+    --help)
+        help
+        exit 0
+        ;;
+    --version)
+        version
+        exit 0
+        ;;
+esac
+is_build=false
 if [ "${1-}" = --build ]; then
+    is_build=true
     shift
+fi
+$is_build || [ $# -gt 0 ] || set -- link
+[ $# -eq 0 ] || are_known "$@" || misused "$@"
+command -v rt > /dev/null || [ -x "$program" ] || fail "there is no command rt on the path"
+if $is_build; then
     is_built || build
     [ $# -gt 0 ] || exit 0
 fi
-[ $# -gt 0 ] || set -- link
+[ ! -t 0 ] || say "the text is read from this terminal, to its end (Ctrl-D)"
 if is_built; then
     exec "$program" "$@"
 fi
 why="no program is built"
 [ ! -x "$program" ] || why="the program there is not known to be built of the sources as they stand"
-echo "link.sh: $why, so the code runs as it is, unproved: ./link.sh --build proves and builds it" >&2
+say "$why, so the code runs as it is, unproved: ./link.sh --build proves and builds it"
 run_unproved "$@"
