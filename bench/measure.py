@@ -6,14 +6,14 @@ The first table is over texts of 10 KB, 100 KB and 1 MB of small types, the seco
 100 KB and 1 MB that are nearly all blanks, comments, one name, or comments that are not closed. The fourth is over the shapes
 of usual modules of the whole notation at 100 KB, 1 MB and 2 MB, and the last over constraints, components and types in each other.
 
-run.sh calls it. The best of five runs counts. Peak memory is that of one further run, as GNU time tells it.
+run.sh calls it. Times are processor seconds, which other work on the machine changes less than the clock, and the best of five runs
+counts. Peak memory is that of one further run, as GNU time tells it.
 """
 
 import os
 import subprocess
 import sys
 import tempfile
-import time
 
 from make_chain import chain
 from make_lexical import KINDS
@@ -32,14 +32,12 @@ READ_STATUSES = (0, 1)
 
 
 def run(command, source):
-    """One run on a file: its seconds, its status, and its peak memory in KB, or this interpreter's where that is more."""
+    """One run on a file: its processor seconds, its status, and its peak memory in KB, or this interpreter's where that is more."""
     with open(source, "rb") as given:
-        start = time.perf_counter()
         child = subprocess.Popen(command, stdin=given, stdout=subprocess.DEVNULL)
         _, status, usage = os.wait4(child.pid, 0)
-        seconds = time.perf_counter() - start
     child.returncode = os.waitstatus_to_exitcode(status)
-    return seconds, child.returncode, usage.ru_maxrss
+    return usage.ru_utime + usage.ru_stime, child.returncode, usage.ru_maxrss
 
 
 def peak_memory(command, source):
