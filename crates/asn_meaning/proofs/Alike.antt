@@ -6,7 +6,7 @@ use Rattle.std.specs.Str.{bytes_eq}
 use Rattle.std.proofs.Common.{◌≡◌, ℕ, Bool, true, false, ◌&&◌, List, [], ◌∷◌, ◌++◌, map, Option, Some, None, refl, sym, subst, ap, ◌∙◌}
 use Rattle.asn_meaning.specs.Answers.{Answer, both, each, once}
 use Rattle.asn_meaning.specs.Scopes.{Scope, Empty, Binds, LeavesOpen, Argument, Bound, bound_to, Place}
-use Rattle.asn_meaning.specs.Tags.{TagChange, BothAlike, PlacesAlike, ScopesAlike, tagged, tagged_governor, tagged_parameter}
+use Rattle.asn_meaning.specs.Tags.{TagChange, BothAlike, PlacesAlike, ScopesAlike, tagged_governor, tagged_parameter}
 use Rattle.asn_meaning.specs.Kinds.{kind_of}
 use Rattle.asn_meaning.proofs.TagLayers.{kind_kept, type_kind_kept}
 

@@ -1,9 +1,8 @@
 -- Whether constraints hold, where tags differ.
 use Rattle.std.specs.Prelude.{is_none, is_some, not, pos, if◌then◌else◌}
-use Rattle.std.specs.List.{list_any}
 use Rattle.std.specs.Option.{option_map}
 use Rattle.std.specs.Str.{bytes_eq}
-use Rattle.std.proofs.Common.{◌≡◌, ℕ, ℤ, Bool, true, false, ◌&&◌, ◌||◌, List, [], ◌∷◌, ◌++◌, map, Option, Some, None, refl, sym, subst, ap, ◌∙◌}
+use Rattle.std.proofs.Common.{◌≡◌, ℕ, Bool, true, false, ◌&&◌, ◌||◌, List, [], ◌∷◌, map, Option, Some, None, refl, sym, subst, ap, ◌∙◌}
 use Rattle.asn_tree.specs.Passes.{constraint_parts, element_parts, operation_parts, set_parts, rewritten_option, rewritten_set}
 use Rattle.asn_kinds.specs.declared.constraints.ComponentPresence.{ComponentPresence}
 use Rattle.asn_kinds.specs.declared.constraints.ComponentPresence.TheVariants.{Absent, Present, Optional, Unspecified}
@@ -18,18 +17,17 @@ use Rattle.asn_meaning.specs.Constraints.{all_hold, alphabet_holds, chain_at, ch
 use Rattle.asn_meaning.specs.Kinds.{Kind, ChoiceKind, ListKind, StructKind, kind_of}
 use Rattle.asn_meaning.specs.Layers.{ConstraintLayer, ElementLayer, InnerLayer, ListedLayer, OptionLayer, SetLayer}
 use Rattle.asn_meaning.specs.Meaning.{Meaning, Member, Parent, ValuesOf, CharactersOf}
-use Rattle.asn_meaning.specs.Members.{element_in, element_place, member_named, member_place}
-use Rattle.asn_meaning.specs.Names.{option_named}
+use Rattle.asn_meaning.specs.Members.{element_in, element_place}
 use Rattle.asn_meaning.specs.Numbers.{Numbers, answers, ranked}
-use Rattle.asn_meaning.specs.Ranges.{codes_of, integer_named, is_free, narrowed, range, value_place}
+use Rattle.asn_meaning.specs.Ranges.{codes_of, from_low, integer_named, is_free, narrowed, up_to_high, value_place}
 use Rattle.asn_meaning.specs.Scopes.{Scope, Place}
-use Rattle.asn_meaning.specs.Shapes.{list_judged, option_place}
+use Rattle.asn_meaning.specs.Shapes.{list_judged}
 use Rattle.asn_meaning.specs.Tags.{TagChange, BothAlike, PlacesAlike, ScopesAlike, tagged, tagged_constraint, tagged_value, tagging}
 use Rattle.asn_meaning.specs.ValueTrees.{ValueTree, WholeNumber, Characters, Struct, Alternative, Fields, field_named, counted}
 use Rattle.asn_meaning.proofs.Alike.{AllAlike, each_alike, kind_alike, once_alike, once_mapped, once_same, once_through, scope_alike}
 use Rattle.asn_meaning.proofs.AlikeMembers.{AlikeKnown, MembersAlike, OptionLayersAlike, ParentsAlike, chain_kept, default_alike, list_judged_alike, member_place_alike, name_alike, named_alike, option_alike, option_place_alike, optional_alike}
-use Rattle.asn_meaning.proofs.AlikeRanges.{codes_alike, free_alike, integer_place, narrowed_alike, range_alike, ranked_same, value_place_alike}
-use Rattle.asn_meaning.proofs.TagLayers.{constraint_out, each_constraint, element_out, kind_kept, operation_out}
+use Rattle.asn_meaning.proofs.AlikeRanges.{codes_alike, free_alike, high_alike, integer_place, low_alike, narrowed_alike, ranked_same, value_place_alike}
+use Rattle.asn_meaning.proofs.TagLayers.{constraint_out, each_constraint, kind_kept, operation_out}
 
 -- ---- what is asked of a tree
 
@@ -128,9 +126,11 @@ module _ (M N : Meaning) (a : AlikeKnown M N) where
       ∙ ap (unless_all Yes Unknown (M.is_all s v (value_place x))) (compared_alike x y p t (M.denotes s v (value_place x)))
 
   range_by : (s q : Scope) → ScopesAlike s q → (x y : Parent) → ParentsAlike x y → (f : TagChange) (low high : Option ASN1Value) (low_open high_open : Bool) (t : ValueTree) →
-      range_holds (range N q y (option_map (tagged_value f) low) (option_map (tagged_value f) high) low_open high_open) (number_asked y t) ≡ range_holds (range M s x low high low_open high_open) (number_asked x t)
+      range_holds (from_low N q y low_open (option_map (tagged_value f) low)) (up_to_high N q y high_open (option_map (tagged_value f) high)) (number_asked y t) ≡ range_holds (from_low M s x low_open low) (up_to_high M s x high_open high) (number_asked x t)
   range_by s q k x y p f low high low_open high_open t =
-      ap (λ z. range_holds z (number_asked y t)) (range_alike M N a s q k x y p f low high low_open high_open) ∙ ap (range_holds (range M s x low high low_open high_open)) (asked_alike x y p t)
+      ap (λ z. range_holds z (up_to_high N q y high_open (option_map (tagged_value f) high)) (number_asked y t)) (low_alike M N a s q k x y p f low_open low)
+      ∙ ap (λ z. range_holds (from_low M s x low_open low) z (number_asked y t)) (high_alike M N a s q k x y p f high_open high)
+      ∙ ap (range_holds (from_low M s x low_open low) (up_to_high M s x high_open high)) (asked_alike x y p t)
 
   size_alike : (s q : Scope) → ScopesAlike s q → (f : TagChange) (set : ElementOrSetOperation) (t : ValueTree) → size_holds N q (rewritten_set (tagging f) set) t ≡ size_holds M s set t
   size_alike s q k f set t = once_same No (counted t) _ _ (λ n. set_alike s q k sizes sizes (integer_named None, integer_place None, refl) f set (WholeNumber (pos n)))

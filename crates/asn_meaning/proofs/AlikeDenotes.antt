@@ -1,9 +1,8 @@
 -- What values denote, where tags differ.
 use Rattle.std.specs.Prelude.{nat_le, nat_lt, pos, negsuc, ◌^◌, ◌*◌, ◌+◌, nat_eq, is_some, if◌then◌else◌}
-use Rattle.std.specs.List.{list_all}
 use Rattle.std.specs.Option.{option_map}
 use Rattle.std.proofs.Common.{◌≡◌, ℕ, ℤ, Bool, true, false, ◌&&◌, ◌||◌, List, [], ◌∷◌, map, Option, Some, None, refl, sym, subst, ap, ◌∙◌}
-use Rattle.asn_tree.specs.Passes.{field_parts, parameter_parts, struct_parts, type_parts, value_parts, rewritten_option}
+use Rattle.asn_tree.specs.Passes.{field_parts, parameter_parts, type_parts, value_parts, rewritten_option}
 use Rattle.asn_tree.specs.declared.constraints.Parameter.{Parameter-F, out-Parameter}
 use Rattle.asn_tree.specs.declared.definitions.ParameterGovernor.{ParameterGovernor}
 use Rattle.asn_tree.specs.declared.definitions.ParameterGovernor.TheVariants as governor
@@ -16,21 +15,20 @@ use Rattle.asn_tree.specs.declared.types.ChoiceOption.{ChoiceOption}
 use Rattle.asn_kinds.specs.declared.types.DistinguishedValue.{DistinguishedValue}
 use Rattle.asn_tree.specs.declared.values.ASN1Value.{ASN1Value}
 use Rattle.asn_tree.specs.declared.values.ASN1Value.TheVariants as value
-use Rattle.asn_meaning.specs.Answers.{Answer, No, Unknown, once, Denotation, Denoted, Nothing, Unsure, together, made_of, if_any, provided}
+use Rattle.asn_meaning.specs.Answers.{No, Unknown, once, Denotation, Denoted, Nothing, Unsure, together, made_of, if_any, provided}
 use Rattle.asn_meaning.specs.Braces.{all_named, all_unnamed, arc_value, arcs_as_element, arcs_as_field, elements_written, fields_written}
-use Rattle.asn_meaning.specs.Definitions.{Definitions, object_named, value_named}
+use Rattle.asn_meaning.specs.Definitions.{Definitions, value_named}
 use Rattle.asn_meaning.specs.Denotes.{Read, are_distinct, argument_at, argument_of, argument_under, choice_row, defined_denoted, defined_read, denoted_under, denotes_at, field_denoted, fields_denoted, is_open, is_open_kind, item_in, list_row, may_stand, member_denoted, name_denoted, own_in, own_name, own_or_defined, parts_row, path_denoted, path_value, read_denoted, reference_denoted, row_or_parts, shaped, struct_denoted, struct_row, trees_denoted, value_denoted, value_of_field, written_denoted}
 use Rattle.asn_meaning.specs.Everything.{defined_is_all, field_place, is_all_at, name_is_all, plain_text, read_is_all, reference_is_all}
 use Rattle.asn_meaning.specs.Kinds.{Kind, BitStringKind, BooleanKind, CharacterStringKind, ChoiceKind, EnumeratedKind, FieldKind, IntegerKind, ListKind, NullKind, ObjectIdentifierKind, OctetStringKind, OpaqueKind, RealKind, ReferenceKind, SelectionKind, StructKind, TimeKind, kind_of}
 use Rattle.asn_meaning.specs.Layers.{FieldLayer, ParameterLayer}
 use Rattle.asn_meaning.specs.Meaning.{Meaning, Member}
-use Rattle.asn_meaning.specs.Members.{may_be_absent, member_named, member_place, named}
-use Rattle.asn_meaning.specs.Names.{FieldType, Open, Fixed, object_field, object_field_type, option_named}
+use Rattle.asn_meaning.specs.Members.{may_be_absent, member_named, named}
+use Rattle.asn_meaning.specs.Names.{FieldType, Open, Fixed}
 use Rattle.asn_meaning.specs.Rows.{arcs_row, bits_row, character, named_bits, names_written, null_row, number_row, number_written, octet_written, octets_row, quadruple, real_row, reference_name, reference_names, row, string_row, string_written, text_row, truth_row}
-use Rattle.asn_meaning.specs.Scopes.{Scope, Empty, Argument, Bound, bound_to, Place}
-use Rattle.asn_meaning.specs.Shapes.{option_place}
+use Rattle.asn_meaning.specs.Scopes.{Scope, Empty, Argument, Bound, Place}
 use Rattle.asn_meaning.specs.Tags.{TagChange, BothAlike, DifferInTags, PlacesAlike, ScopesAlike, tagged, tagged_governor, tagged_value, tagging}
-use Rattle.asn_meaning.specs.ValueTrees.{ValueTree, Struct, Alternative, Elements, Opaque, Fields, field, ValueTrees, tree, Bits, Characters, is_among}
+use Rattle.asn_meaning.specs.ValueTrees.{ValueTree, Struct, Alternative, Elements, Opaque, field, tree, Bits, Characters, is_among}
 use Rattle.asn_meaning.specs.Written.{NamedValues, Items, Written, AllWritten, NullWritten, TruthWritten, NumberWritten, RealWritten, TextWritten, BitsWritten, BitNamesWritten, OctetsWritten, ArcsWritten, ItemWritten, NameWritten, BracesWritten, FieldsWritten, ElementsWritten, AlternativeWritten, NestedWritten, as_written}
 use Rattle.asn_meaning.proofs.Alike.{AllAlike, ArgumentsAlike, BoundsAlike, all_alike, bound_alike, kind_alike, once_alike, once_both, once_mapped, once_same, once_through, scope_alike}
 use Rattle.asn_meaning.proofs.AlikeMembers.{AlikeKnown, MembersAlike, OptionLayersAlike, absent_alike, member_place_alike, name_alike, named_alike, option_alike, option_place_alike}

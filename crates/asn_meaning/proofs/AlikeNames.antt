@@ -1,7 +1,7 @@
 -- Where names lead, where tags differ.
 use Rattle.std.specs.Prelude.{is_none, is_some, if◌then◌else◌}
 use Rattle.std.specs.Option.{option_map}
-use Rattle.std.proofs.Common.{◌≡◌, ℕ, Bool, true, false, ◌&&◌, List, [], ◌∷◌, map, Option, Some, None, refl, sym, subst, ap, ◌∙◌}
+use Rattle.std.proofs.Common.{◌≡◌, ℕ, ◌&&◌, List, [], ◌∷◌, map, Option, Some, None, refl, sym, subst, ap, ◌∙◌}
 use Rattle.asn_tree.specs.Passes.{constraint_parts, field_parts, parameter_parts, type_parts, rewritten_option}
 use Rattle.asn_tree.specs.declared.constraints.Constraint.{Constraint, Constraint-F, out-Constraint}
 use Rattle.asn_tree.specs.declared.constraints.Parameter.{Parameter, Parameter-F, out-Parameter}
@@ -11,22 +11,20 @@ use Rattle.asn_tree.specs.declared.definitions.Parameterization.{Parameterizatio
 use Rattle.asn_tree.specs.declared.definitions.ParameterizationArgument.{ParameterizationArgument}
 use Rattle.asn_tree.specs.declared.definitions.ToplevelTypeDefinition.{ToplevelTypeDefinition}
 use Rattle.asn_tree.specs.declared.objects.InformationObject.{InformationObject}
-use Rattle.asn_tree.specs.declared.objects.InformationObjectClass.{InformationObjectClass}
 use Rattle.asn_tree.specs.declared.objects.InformationObjectClassField.{InformationObjectClassField}
 use Rattle.asn_tree.specs.declared.objects.InformationObjectField.{InformationObjectField, InformationObjectField-F, out-InformationObjectField}
-use Rattle.asn_syntax.specs.declared.objects.ObjectFieldIdentifier.{ObjectFieldIdentifier}
 use Rattle.asn_tree.specs.declared.types.ASN1Type.{ASN1Type}
 use Rattle.asn_tree.specs.declared.types.ASN1Type.TheVariants as type_of_kind
 use Rattle.asn_tree.specs.declared.types.ChoiceOption.{ChoiceOption, out-ChoiceOption}
 use Rattle.asn_meaning.specs.Answers.{once}
 use Rattle.std.specs.Str.{bytes_eq}
 use Rattle.asn_meaning.specs.Definitions.{Definitions, class_named, is_class, object_named}
-use Rattle.asn_meaning.specs.Kinds.{Kind, FieldKind, ReferenceKind, kind_of_type}
+use Rattle.asn_meaning.specs.Kinds.{Kind, ReferenceKind, kind_of_type}
 use Rattle.asn_meaning.specs.Layers.{ClassFieldLayer, ConstraintLayer, FieldLayer, OptionLayer, ParameterLayer, ReferenceLayer}
 use Rattle.asn_meaning.specs.Names.{list_at, lists_in, instance, null_type, type_argument, dummy_target, name_target, type_of_field, marked, object_field, field_target, reference_of, reference_target, plain_name, option_named, FieldType, Open, Fixed, fixed_at, fixed_or_open, class_field_type, object_field_type}
 use Rattle.asn_meaning.specs.Objects.{field_of, field_at_path, given}
 use Rattle.asn_meaning.specs.Scopes.{Scope, Empty, Binds, Argument, Bound, bound_to, entered, Place, Target, bare}
-use Rattle.asn_meaning.specs.Tags.{TagChange, BothAlike, DifferInTags, PlacesAlike, ScopesAlike, tagged, tagged_class, tagged_class_field, tagged_dummy, tagged_governor, tagged_parameter, tagged_parameters, tagging}
+use Rattle.asn_meaning.specs.Tags.{TagChange, BothAlike, DifferInTags, PlacesAlike, ScopesAlike, tagged, tagged_class_field, tagged_dummy, tagged_governor, tagged_parameter, tagged_parameters, tagging}
 use Rattle.asn_meaning.specs.Written.{Written, NullWritten, as_written}
 use Rattle.asn_meaning.proofs.Alike.{ArgumentsAlike, BoundsAlike, bound_alike, once_both, if_alike, if_mapped, is_some_alike, mapped_alike}
 use Rattle.asn_meaning.proofs.AlikeObjects.{ClassesAlike, FieldsAlike, ObjectsAlike, TypesAlike, class_alike, field_of_kept, given_alike, is_class_alike, object_alike, path_kept, reference_type_kept, type_alike}

@@ -1,5 +1,5 @@
 -- What names see, classes and objects, where tags differ.
-use Rattle.std.specs.Prelude.{is_some, pos}
+use Rattle.std.specs.Prelude.{pos}
 use Rattle.std.specs.List.{find}
 use Rattle.std.specs.Option.{option_map}
 use Rattle.std.specs.Str.{bytes_eq}
@@ -20,7 +20,6 @@ use Rattle.asn_tree.specs.declared.objects.ASN1Information.{ASN1Information}
 use Rattle.asn_tree.specs.declared.objects.ASN1Information.TheVariants.{ObjectClass, ObjectSet, Object}
 use Rattle.asn_tree.specs.declared.objects.InformationObject.{InformationObject}
 use Rattle.asn_tree.specs.declared.objects.InformationObjectClass.{InformationObjectClass}
-use Rattle.asn_tree.specs.declared.objects.InformationObjectClassField.{InformationObjectClassField}
 use Rattle.asn_tree.specs.declared.objects.InformationObjectField.{InformationObjectField, InformationObjectField-F, out-InformationObjectField}
 use Rattle.asn_tree.specs.declared.objects.InformationObjectField.TheVariants as gives
 use Rattle.asn_tree.specs.declared.objects.InformationObjectFields.{InformationObjectFields, InformationObjectFields-F, out-InformationObjectFields}
@@ -28,7 +27,7 @@ use Rattle.asn_syntax.specs.declared.objects.InformationObjectSyntax.{Informatio
 use Rattle.asn_syntax.specs.declared.objects.ObjectFieldIdentifier.{ObjectFieldIdentifier}
 use Rattle.asn_syntax.specs.declared.objects.ObjectFieldIdentifier.TheVariants.{SingleValue, MultipleValue}
 use Rattle.asn_tree.specs.declared.objects.SyntaxApplication.{SyntaxApplication, SyntaxApplication-F, out-SyntaxApplication}
-use Rattle.asn_syntax.specs.declared.objects.SyntaxExpression.{SyntaxExpression, SyntaxExpression-F, fold-SyntaxExpression, fold-roll-SyntaxExpression, ind-SyntaxExpression, map-SyntaxExpression}
+use Rattle.asn_syntax.specs.declared.objects.SyntaxExpression.{SyntaxExpression, SyntaxExpression-F, fold-roll-SyntaxExpression, ind-SyntaxExpression, map-SyntaxExpression}
 use Rattle.asn_syntax.specs.declared.objects.SyntaxToken.{SyntaxToken}
 use Rattle.asn_syntax.specs.declared.objects.SyntaxToken.TheVariants.{Literal, Comma, Field}
 use Rattle.asn_tree.specs.declared.types.ASN1Type.{ASN1Type}
@@ -36,7 +35,7 @@ use Rattle.asn_tree.specs.declared.types.ASN1Type.TheVariants as type_of_kind
 use Rattle.asn_notation.specs.Paths.{field_name}
 use Rattle.asn_notation.specs.Syntax.{given_name, given_name_at, gives_type_at, gives_value_at, is_comma_at, is_word_at, later_tokens, matches, up_to_required}
 use Rattle.asn_meaning.specs.Answers.{once}
-use Rattle.asn_meaning.specs.Definitions.{Definitions, see, type_in, type_named, value_in, value_named, unless_template, information_in, information_named, class_in, is_class, class_named, object_in, object_named}
+use Rattle.asn_meaning.specs.Definitions.{Definitions, type_in, type_named, value_in, value_named, unless_template, information_in, information_named, class_in, is_class, class_named, object_in, object_named}
 use Rattle.asn_meaning.specs.Layers.{FieldLayer, FieldsLayer, ItemLayer, ReferenceLayer}
 use Rattle.asn_meaning.specs.Objects.{Part, part_at, part_of, begins, optional_tokens, tokens_in, field_of, field_at_path, number_word, type_given, value_given, item_gives, take_item, follow_each, applied, if_ended, given_at, given}
 use Rattle.asn_meaning.specs.Tags.{TagChange, BothAlike, DifferInTags, IsRetagged, tagged, tagged_class, tagged_class_field, tagged_fields, tagged_information, tagged_parameters, tagged_value, tagging}

@@ -1,8 +1,8 @@
 -- Plain form, where tags differ.
-use Rattle.std.specs.Prelude.{is_none, is_some, if◌then◌else◌}
+use Rattle.std.specs.Prelude.{is_some, if◌then◌else◌}
 use Rattle.std.specs.List.{list_all}
 use Rattle.std.specs.Option.{option_map}
-use Rattle.std.proofs.Common.{◌≡◌, ◌↔◌, ℕ, zero, suc, Bool, true, false, ◌&&◌, List, [], ◌∷◌, map, Option, Some, None, refl, sym, subst, ap, ◌∙◌}
+use Rattle.std.proofs.Common.{◌≡◌, ◌↔◌, ℕ, zero, suc, Bool, false, ◌&&◌, List, [], ◌∷◌, map, Option, Some, None, refl, sym, subst, ap, ◌∙◌}
 use Rattle.asn_tree.specs.Passes.{constraint_parts, element_parts, struct_parts, rewritten_element, rewritten_member, rewritten_option, rewritten_set}
 use Rattle.asn_tree.specs.declared.constraints.Constraint.{Constraint, Constraint-F, out-Constraint}
 use Rattle.asn_tree.specs.declared.constraints.ElementOrSetOperation.{ElementOrSetOperation}
@@ -18,14 +18,13 @@ use Rattle.asn_meaning.specs.Accepts.{place}
 use Rattle.asn_meaning.specs.Answers.{once}
 use Rattle.asn_meaning.specs.Braces.{elements_written, fields_written}
 use Rattle.asn_meaning.specs.Definitions.{Definitions}
-use Rattle.asn_meaning.specs.Denotes.{item_in}
 use Rattle.asn_meaning.specs.Everything.{plain_text}
 use Rattle.asn_meaning.specs.Judge.{meaning}
 use Rattle.asn_meaning.specs.Kinds.{Kind, BitStringKind, ChoiceKind, FieldKind, ListKind, ReferenceKind, StructKind, kind_of, kind_of_type}
-use Rattle.asn_meaning.specs.Layers.{ConstraintLayer, ElementLayer, ListedLayer, MemberLayer, OptionLayer, StructLayer}
+use Rattle.asn_meaning.specs.Layers.{ConstraintLayer, ElementLayer, ListedLayer, StructLayer}
 use Rattle.asn_meaning.specs.Meaning.{Meaning, Member}
-use Rattle.asn_meaning.specs.Members.{element_place, member_named, member_place}
-use Rattle.asn_meaning.specs.Names.{FieldType, Open, Fixed, class_field_type, option_named}
+use Rattle.asn_meaning.specs.Members.{member_place}
+use Rattle.asn_meaning.specs.Names.{FieldType, Open, Fixed}
 use Rattle.asn_meaning.specs.Numbers.{Chain}
 use Rattle.asn_meaning.specs.Plain.{IsPlain, Plainness, choice_plain, constraint_plain, constraints_plain, contained_plain, element_plain, end_plain, fields_plain, inner_plain, is_nameless, is_open_field, is_plain_name, list_value_plain, listed_place, member_plain, name_plain, option_plain, parts_of_value_plain, parts_plain, plainness, set_plain, struct_plain, struct_value_plain, type_plain, value_plain, value_plain_at}
 use Rattle.asn_meaning.specs.Ranges.{integer_named}
@@ -33,7 +32,7 @@ use Rattle.asn_meaning.specs.Scopes.{Scope, Empty, Place}
 use Rattle.asn_meaning.specs.Shapes.{option_place}
 use Rattle.asn_meaning.specs.Tags.{TagChange, BothAlike, DifferInTags, PlacesAlike, ScopesAlike, tagged, tagged_constraint, tagged_value, tagging}
 use Rattle.asn_meaning.specs.Written.{NamedValues, Written, AllWritten, NullWritten, TruthWritten, NumberWritten, RealWritten, TextWritten, BitsWritten, BitNamesWritten, OctetsWritten, ArcsWritten, ItemWritten, NameWritten, BracesWritten, FieldsWritten, ElementsWritten, AlternativeWritten, NestedWritten, as_written}
-use Rattle.asn_meaning.proofs.Alike.{AllAlike, is_some_alike, kind_alike, once_alike, once_both, once_mapped, scope_alike}
+use Rattle.asn_meaning.proofs.Alike.{AllAlike, kind_alike, once_alike, once_both, once_mapped, scope_alike}
 use Rattle.asn_meaning.proofs.AlikeConstraints.{element_alike, listed_kept}
 use Rattle.asn_meaning.proofs.AlikeDenotes.{elements_kept, fields_kept, item_in_kept, text_place}
 use Rattle.asn_meaning.proofs.AlikeMembers.{AlikeKnown, MembersAlike, OptionLayersAlike, chain_kept, member_place_alike, named_alike, option_alike, option_place_alike}
@@ -41,7 +40,7 @@ use Rattle.asn_meaning.proofs.AlikeNames.{FieldTypesAlike, class_field_alike}
 use Rattle.asn_meaning.proofs.AlikeRanges.{integer_place}
 use Rattle.asn_meaning.proofs.AlikeSteps.{known_alike}
 use Rattle.asn_meaning.proofs.Nameless.{nameless_kept}
-use Rattle.asn_meaning.proofs.TagLayers.{constraint_out, constraints_kept, each_constraint, element_out, kind_kept, member_layer, member_out, named_kept, option_layer, option_out, type_kind_kept, value_written_kept, written_kept}
+use Rattle.asn_meaning.proofs.TagLayers.{constraint_out, constraints_kept, each_constraint, element_out, kind_kept, member_out, named_kept, option_out, type_kind_kept, value_written_kept, written_kept}
 
 all_mapped : {A : Type 0} (s : A → A) (p q : A → Bool) → ((x : A) → q (s x) ≡ p x) → (xs : List A) → list_all q (map s xs) ≡ list_all p xs
 all_mapped s p q k [] = refl

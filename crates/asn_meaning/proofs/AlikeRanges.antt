@@ -1,35 +1,34 @@
 -- Ranges and the numbers that constraints leave, where tags differ.
 use Rattle.std.specs.Prelude.{if◌then◌else◌}
 use Rattle.std.specs.Option.{option_map}
-use Rattle.std.proofs.Common.{◌≡◌, ℤ, Bool, true, false, List, [], ◌∷◌, ◌++◌, map, Option, Some, None, refl, sym, subst, ap, ◌∙◌}
+use Rattle.std.proofs.Common.{◌≡◌, Bool, List, [], ◌∷◌, map, Option, Some, None, refl, sym, subst, ap, ◌∙◌}
 use Rattle.asn_tree.specs.Passes.{constraint_parts, element_parts, type_parts, rewritten_element, rewritten_set}
 use Rattle.asn_tree.specs.declared.constraints.Constraint.{Constraint, Constraint-F, out-Constraint}
 use Rattle.asn_tree.specs.declared.constraints.ElementOrSetOperation.{ElementOrSetOperation}
 use Rattle.asn_kinds.specs.declared.constraints.SetOperator.{SetOperator}
 use Rattle.asn_kinds.specs.declared.constraints.SetOperator.TheVariants.{Intersection, Union, Except}
 use Rattle.asn_tree.specs.declared.constraints.SubtypeElement.{SubtypeElement, SubtypeElement-F, out-SubtypeElement}
-use Rattle.asn_tree.specs.declared.types.ASN1Type.{ASN1Type}
 use Rattle.asn_tree.specs.declared.types.ASN1Type.TheVariants as type_of_kind
 use Rattle.asn_kinds.specs.declared.types.DistinguishedValue.{DistinguishedValue}
 use Rattle.asn_tree.specs.declared.values.ASN1Value.{ASN1Value}
 use Rattle.asn_notation.specs.Types.{constraints_of}
 use Rattle.asn_meaning.specs.Placed.{listed}
-use Rattle.asn_meaning.specs.Answers.{Answer, Denotation, once, unless_all}
+use Rattle.asn_meaning.specs.Answers.{once, unless_all}
 use Rattle.asn_meaning.specs.Definitions.{Definitions}
-use Rattle.asn_meaning.specs.Kinds.{Kind, FieldKind, IntegerKind, StructKind, kind_of}
+use Rattle.asn_meaning.specs.Kinds.{Kind, StructKind, kind_of}
 use Rattle.asn_meaning.specs.Layers.{ConstraintLayer, ElementLayer}
 use Rattle.asn_meaning.specs.Meaning.{Meaning, Parent, ValuesOf, CharactersOf}
-use Rattle.asn_meaning.specs.Names.{Lead, IsHead, LeadsTo, IsLost, lead}
+use Rattle.asn_meaning.specs.Names.{Lead, IsHead, LeadsTo, IsLost}
 use Rattle.asn_meaning.specs.Numbers.{Chain, Joining, Numbers, every_number, above_least, below_greatest, in_both, lifted, number_sets, numbers_from, numbers_to, ranked, ranked_from}
-use Rattle.asn_meaning.specs.Ranges.{all_constraints, beside, codes_at, codes_of, end_denoted, from_low, integer_named, integer_of, is_free, is_free_kind, named_numbers_in, narrowed, narrowed_at, narrowed_by_all, number_denoted, number_of_single, numbers_at, numbers_at_element, numbers_at_head, numbers_before, numbers_from_lead, numbers_in_set, numbers_of, one_character, parent_end, range, up_to_high, value_place, whole_number}
+use Rattle.asn_meaning.specs.Ranges.{beside, codes_at, codes_of, end_denoted, from_low, integer_named, integer_of, is_free, is_free_kind, named_numbers_in, narrowed, narrowed_at, narrowed_by_all, number_denoted, number_of_single, numbers_at_element, numbers_at_head, numbers_before, numbers_from_lead, numbers_in_set, numbers_of, one_character, parent_end, range, up_to_high, value_place, whole_number}
 use Rattle.asn_meaning.specs.Everything.{plain_text}
 use Rattle.asn_meaning.specs.Scopes.{Scope, Empty, Place}
-use Rattle.asn_meaning.specs.Tags.{TagChange, BothAlike, DifferInTags, PlacesAlike, ScopesAlike, tagged, tagged_constraint, tagged_value, tagging}
-use Rattle.asn_meaning.proofs.Alike.{kind_alike, once_alike, once_mapped, scope_alike}
+use Rattle.asn_meaning.specs.Tags.{TagChange, DifferInTags, PlacesAlike, ScopesAlike, tagged_constraint, tagged_value, tagging}
+use Rattle.asn_meaning.proofs.Alike.{kind_alike, once_mapped}
 use Rattle.asn_meaning.proofs.AlikeDenotes.{text_place}
 use Rattle.asn_meaning.proofs.AlikeMembers.{AlikeKnown, LeadsAlike, ParentsAlike, chain_kept, lead_alike}
 use Rattle.asn_meaning.proofs.AlikeNames.{untagged_place}
-use Rattle.asn_meaning.proofs.TagLayers.{constraint_out, constraints_kept, each_constraint, element_out, kind_kept, map_append, type_by_level}
+use Rattle.asn_meaning.proofs.TagLayers.{constraint_out, constraints_kept, each_constraint, element_out, kind_kept, type_by_level}
 
 -- ---- chains
 
@@ -93,15 +92,15 @@ module _ (M N : Meaning) (a : AlikeKnown M N) where
   end_alike s q k (ValuesOf h n) y (g, r, e) f v = ap (λ z. end_denoted N q z (tagged_value f v)) e ∙ ap whole_number (a.denotes s q k f v _ _ (integer_alike h g r))
   end_alike s q k (CharactersOf codes) y e f v = ap (λ z. end_denoted N q z (tagged_value f v)) e ∙ ap one_character (a.denotes s q k f v _ _ text_place)
 
-  low_alike : (s q : Scope) → ScopesAlike s q → (x y : Parent) → ParentsAlike x y → (f : TagChange) (is_open : Bool) (v : Option ASN1Value) → from_low N q y is_open (option_map (tagged_value f) v) ≡ from_low M s x is_open v
+  pub low_alike : (s q : Scope) → ScopesAlike s q → (x y : Parent) → ParentsAlike x y → (f : TagChange) (is_open : Bool) (v : Option ASN1Value) → from_low N q y is_open (option_map (tagged_value f) v) ≡ from_low M s x is_open v
   low_alike s q k x y p f is_open None = ap (parent_end above_least is_open) (numbers_of_alike x y p)
   low_alike s q k x y p f is_open (Some v) = ap (beside (numbers_from is_open)) (end_alike s q k x y p f v)
 
-  high_alike : (s q : Scope) → ScopesAlike s q → (x y : Parent) → ParentsAlike x y → (f : TagChange) (is_open : Bool) (v : Option ASN1Value) → up_to_high N q y is_open (option_map (tagged_value f) v) ≡ up_to_high M s x is_open v
+  pub high_alike : (s q : Scope) → ScopesAlike s q → (x y : Parent) → ParentsAlike x y → (f : TagChange) (is_open : Bool) (v : Option ASN1Value) → up_to_high N q y is_open (option_map (tagged_value f) v) ≡ up_to_high M s x is_open v
   high_alike s q k x y p f is_open None = ap (parent_end below_greatest is_open) (numbers_of_alike x y p)
   high_alike s q k x y p f is_open (Some v) = ap (beside (numbers_to is_open)) (end_alike s q k x y p f v)
 
-  pub range_alike : (s q : Scope) → ScopesAlike s q → (x y : Parent) → ParentsAlike x y → (f : TagChange) (low high : Option ASN1Value) (low_open high_open : Bool) →
+  range_alike : (s q : Scope) → ScopesAlike s q → (x y : Parent) → ParentsAlike x y → (f : TagChange) (low high : Option ASN1Value) (low_open high_open : Bool) →
       range N q y (option_map (tagged_value f) low) (option_map (tagged_value f) high) low_open high_open ≡ range M s x low high low_open high_open
   range_alike s q k x y p f low high low_open high_open =
       ap (λ z. lifted in_both z (up_to_high N q y high_open (option_map (tagged_value f) high))) (low_alike s q k x y p f low_open low)

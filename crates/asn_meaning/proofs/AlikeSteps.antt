@@ -1,6 +1,6 @@
 -- What tags are changed in means the same.
 use Rattle.std.specs.Option.{option_map}
-use Rattle.std.proofs.Common.{◌≡◌, ◌↔◌, ℕ, zero, suc, List, [], ◌++◌, map, Option, Some, None, refl, sym, ap, ◌∙◌}
+use Rattle.std.proofs.Common.{◌≡◌, ◌↔◌, ℕ, zero, suc, List, [], ◌++◌, Option, Some, None, refl, sym, ap, ◌∙◌}
 use Rattle.asn_tree.specs.Calls.{numbered}
 use Rattle.asn_tree.specs.Tagging.{retag, retagged_definition, retagged_link}
 use Rattle.asn_tree.specs.declared.definitions.ToplevelDefinition.{ToplevelDefinition}
@@ -11,7 +11,6 @@ use Rattle.asn_tree.specs.declared.constraints.Constraint.{Constraint}
 use Rattle.asn_tree.specs.declared.constraints.ElementOrSetOperation.{out-ElementOrSetOperation}
 use Rattle.asn_tree.specs.declared.constraints.SubtypeElement.{out-SubtypeElement}
 use Rattle.asn_tree.specs.declared.types.ASN1Type.{ASN1Type}
-use Rattle.asn_tree.specs.declared.values.ASN1Value.{ASN1Value}
 use Rattle.asn_notation.specs.Types.{constraints_of}
 use Rattle.asn_meaning.specs.Placed.{listed}
 use Rattle.asn_meaning.specs.Accepts.{place, judge, Accepts}
@@ -28,13 +27,13 @@ use Rattle.asn_meaning.specs.Numbers.{Numbers}
 use Rattle.asn_meaning.specs.Ranges.{all_constraints, narrowed_by_all, numbers_at, numbers_before}
 use Rattle.asn_meaning.specs.Scopes.{Scope, Empty, Place}
 use Rattle.asn_meaning.specs.Shapes.{is_of_kind, kind_or_parts, option_place}
-use Rattle.asn_meaning.specs.Tags.{TagChange, BothAlike, DifferInTags, IsRetagged, PlacesAlike, ScopesAlike, tagged, tagged_value}
+use Rattle.asn_meaning.specs.Tags.{TagChange, BothAlike, DifferInTags, IsRetagged, PlacesAlike, ScopesAlike, tagged}
 use Rattle.asn_meaning.specs.ValueTrees.{ValueTree}
 use Rattle.asn_meaning.specs.Written.{as_written}
 use Rattle.asn_meaning.proofs.Alike.{kind_alike, once_alike, scope_alike}
 use Rattle.asn_meaning.proofs.AlikeConstraints.{all_hold_alike, chain_at_alike, holds_at_alike}
 use Rattle.asn_meaning.proofs.AlikeDenotes.{denotes_at_alike, is_all_at_alike}
-use Rattle.asn_meaning.proofs.AlikeMembers.{AlikeKnown, LeadsAlike, MembersAlike, choice_judged_alike, fits_at_alike, head_at_alike, kind_same, lead_alike, list_judged_alike, member_place_alike, members_at_alike, option_place_alike, struct_judged_alike}
+use Rattle.asn_meaning.proofs.AlikeMembers.{AlikeKnown, LeadsAlike, choice_judged_alike, fits_at_alike, head_at_alike, kind_same, lead_alike, list_judged_alike, member_place_alike, members_at_alike, option_place_alike, struct_judged_alike}
 use Rattle.asn_meaning.proofs.AlikeObjects.{TypesAlike, type_alike}
 use Rattle.asn_meaning.proofs.AlikeRanges.{constraints_alike, narrowed_by_all_alike, numbers_before_alike}
 use Rattle.asn_meaning.proofs.TagLayers.{each_constraint, element_out, kind_kept, set_out, value_written_kept}

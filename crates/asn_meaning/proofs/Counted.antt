@@ -6,7 +6,7 @@ use Rattle.asn_tree.specs.declared.constraints.SubtypeElement.{SubtypeElement, S
 use Rattle.asn_tree.specs.declared.types.ASN1Type.{ASN1Type}
 use Rattle.asn_meaning.specs.Accepts.{place, judge}
 use Rattle.asn_meaning.specs.Answers.{Answer, Yes, No, Unknown, both, either, denied, answer_of, once, unless_all, Denotation, Denoted, Nothing, Unsure, Refines, Within}
-use Rattle.asn_meaning.specs.Constraints.{constraint_at, constraint_holds, all_hold, compared, part_holds, range_holds, inner_at, holds_at}
+use Rattle.asn_meaning.specs.Constraints.{constraint_at, constraint_holds, all_hold, compared, part_holds, side_holds, range_holds, inner_at, holds_at}
 use Rattle.asn_meaning.specs.Definitions.{Definitions}
 use Rattle.asn_meaning.specs.Judge.{characters_at, parts_accepted, stands_for, accepts_at, nothing_known, step, meaning}
 use Rattle.asn_meaning.specs.Kinds.{Kind, ChoiceKind, ReferenceKind, SelectionKind, StructKind, kind_of}
@@ -15,7 +15,7 @@ use Rattle.asn_meaning.specs.Members.{element_place}
 use Rattle.asn_meaning.specs.Meaning.{Meaning, ValuesOf}
 use Rattle.asn_meaning.specs.Names.{Lead, IsHead, LeadsTo, IsLost, lead}
 use Rattle.asn_meaning.specs.Numbers.{Chain, ranked, answers, Numbers, every_number, in_both, in_either, in_first, lifted, number_sets}
-use Rattle.asn_meaning.specs.Ranges.{range, number_denoted, numbers_at_element, is_free, narrowed_at, narrowed, narrowed_by_all, all_constraints, numbers_at_head, numbers_from_lead, numbers_before, numbers_at}
+use Rattle.asn_meaning.specs.Ranges.{from_low, up_to_high, number_denoted, numbers_at_element, is_free, narrowed_at, narrowed, narrowed_by_all, all_constraints, numbers_at_head, numbers_from_lead, numbers_before, numbers_at}
 use Rattle.asn_meaning.specs.Scopes.{Scope, Place}
 use Rattle.asn_meaning.specs.Shapes.{is_of_kind, kind_or_parts, list_judged}
 use Rattle.asn_meaning.specs.ValueTrees.{ValueTree, WholeNumber}
@@ -77,9 +77,12 @@ module _ (i : ℤ) where
   single_says head n No Unsure = tt
   single_says head n Unknown d = tt
 
-  range_says : (r : Option Numbers) → Says i (range_holds r (Some i)) r
-  range_says None = tt
-  range_says (Some s) = same_refines _
+  side_says : (s : Option Numbers) → Says i (side_holds s i) s
+  side_says None = tt
+  side_says (Some s) = same_refines _
+
+  range_says : (low high : Option Numbers) → Says i (range_holds low high (Some i)) (lifted in_both low high)
+  range_says low high = common_says (side_holds low i) low (side_holds high i) high (side_says low) (side_says high)
 
   narrowed_says : (b : Bool) (a c : Answer) (x y : Option Numbers) → Says i a x → Says i (both a c) y → Says i (both a (if b then Yes else c)) (if b then x else y)
   narrowed_says true a c x y p q = subst (λ z. Says i z x) (sym (both_yes a)) p
@@ -100,7 +103,7 @@ module _ (i : ℤ) where
     element_says scope head n (SubtypeElement-F.SingleValue v e) = single_says head n (M.is_all scope v head) (M.denotes scope v head)
     element_says scope head n (SubtypeElement-F.ContainedSubtype ty e) = meant _ []
     element_says scope head n (SubtypeElement-F.TypeConstraint ty) = meant _ []
-    element_says scope head n (SubtypeElement-F.ValueRange low high low_open high_open e) = range_says (range M scope (ValuesOf head n) low high low_open high_open)
+    element_says scope head n (SubtypeElement-F.ValueRange low high low_open high_open e) = range_says (from_low M scope (ValuesOf head n) low_open low) (up_to_high M scope (ValuesOf head n) high_open high)
     element_says scope head n (SubtypeElement-F.MultipleTypeConstraints inner) = subst (λ z. Refines z No) (sym (inner_no scope inner head.scope (kind_of head))) refl
     element_says scope head n (SubtypeElement-F.SingleTypeConstraint cs) = subst (λ z. Refines z No) (sym (component_no scope cs (element_place head))) refl
     element_says scope head n _ = refl

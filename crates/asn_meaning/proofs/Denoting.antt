@@ -1,32 +1,30 @@
 -- What a value denotes fits its type, where no two members share a name.
-use Rattle.std.proofs.Common.{rules}
 use Rattle.std.proofs.lemmas.Slice.Eq.{bytes_eq-Decides}
-use Rattle.std.specs.Prelude.{cond, int_le, not, is_some, if◌then◌else◌}
-use Rattle.std.specs.List.{find, list_all, list_any}
+use Rattle.std.specs.Prelude.{cond, not, if◌then◌else◌}
+use Rattle.std.specs.List.{find, list_all}
 use Rattle.std.specs.Str.{bytes_eq}
-use Rattle.std.proofs.Common.{◌≡◌, ℕ, zero, suc, ℤ, ◌⊎◌, inl, inr, Bool, true, false, ◌&&◌, ◌||◌, List, [], ◌∷◌, map, Option, Some, None, refl, sym, subst, ap, ◌∙◌, arith}
+use Rattle.std.proofs.Common.{◌≡◌, ℕ, zero, suc, ℤ, Bool, true, false, ◌&&◌, ◌||◌, List, [], ◌∷◌, map, Option, Some, None, refl, sym, subst, ap, ◌∙◌, arith}
 use Rattle.std.proofs.lemmas.Int.{ints}
-use Rattle.asn_tree.specs.declared.types.ChoiceOption.{ChoiceOption}
 use Rattle.asn_kinds.specs.declared.types.DistinguishedValue.{DistinguishedValue}
 use Rattle.asn_kinds.specs.declared.types.Enumeral.{Enumeral}
 use Rattle.asn_tree.specs.declared.values.ASN1Value.{ASN1Value}
 use Rattle.asn_meaning.specs.Answers.{Answer, Yes, No, Unknown, answer_of, both, each, once, Denotation, Denoted, Nothing, Unsure, together, made_of, if_any, provided, Within}
 use Rattle.asn_meaning.specs.Braces.{elements_written, fields_written}
 use Rattle.asn_meaning.specs.Definitions.{Definitions, value_named}
-use Rattle.asn_meaning.specs.Denotes.{are_distinct, argument_of, choice_row, defined_denoted, defined_read, denoted_under, denotes_at, field_denoted, fields_denoted, is_open, is_open_kind, item_in, list_row, may_stand, member_denoted, name_denoted, own_in, own_name, own_or_defined, parts_row, path_denoted, path_value, read_denoted, reference_denoted, row_or_parts, shaped, struct_denoted, struct_row, trees_denoted, value_denoted, written_denoted}
+use Rattle.asn_meaning.specs.Denotes.{are_distinct, argument_of, defined_denoted, defined_read, denoted_under, denotes_at, field_denoted, fields_denoted, is_open, is_open_kind, item_in, may_stand, member_denoted, name_denoted, own_in, own_name, own_or_defined, parts_row, path_value, read_denoted, reference_denoted, row_or_parts, shaped, struct_denoted, trees_denoted, value_denoted, written_denoted}
 use Rattle.asn_meaning.specs.Distinct.{NamesDiffer, PartsDiffer}
 use Rattle.asn_meaning.specs.Judge.{meaning, nothing_known, step}
 use Rattle.asn_meaning.specs.Kinds.{Kind, BitStringKind, BooleanKind, CharacterStringKind, ChoiceKind, EnumeratedKind, FieldKind, IntegerKind, ListKind, NullKind, ObjectIdentifierKind, OctetStringKind, OpaqueKind, RealKind, ReferenceKind, SelectionKind, StructKind, TimeKind, kind_of}
 use Rattle.asn_meaning.specs.Meaning.{Meaning, Member}
 use Rattle.asn_meaning.specs.Members.{item_named, may_be_absent, member_named, member_names, member_place, named, number_named}
-use Rattle.asn_meaning.specs.Names.{IsHead, lead, option_named}
+use Rattle.asn_meaning.specs.Names.{option_named}
 use Rattle.asn_meaning.specs.Rows.{arcs_row, bits_row, named_bits, names_written, null_row, number_row, number_written, octets_of, octets_row, real_row, row, string_row, string_written, text_row, text_written, truth_row}
 use Rattle.asn_meaning.specs.Scopes.{Scope, Bound, bound_to, Place}
-use Rattle.asn_meaning.specs.Shapes.{choice_judged, fields_judged, head_fits, is_bits, is_identifier, is_item, is_null, is_octets, is_of_kind, is_real, is_text, is_truth_value, is_whole_number, kind_or_parts, list_judged, member_judged, option_place, parts_fit, struct_judged, trees_judged}
-use Rattle.asn_meaning.specs.ValueTrees.{ValueTree, ItemNumber, WholeNumber, Bits, Octets, RealNumber, Characters, Struct, Elements, Alternative, Opaque, Fields, no_field, field, field_named, field_names, ValueTrees, no_tree, tree, are_among, is_among, same_number}
+use Rattle.asn_meaning.specs.Shapes.{choice_judged, head_fits, is_bits, is_identifier, is_item, is_null, is_octets, is_of_kind, is_real, is_text, is_truth_value, is_whole_number, kind_or_parts, list_judged, member_judged, option_place, parts_fit, struct_judged, trees_judged}
+use Rattle.asn_meaning.specs.ValueTrees.{ValueTree, ItemNumber, WholeNumber, Bits, Octets, Characters, Struct, Elements, Alternative, Opaque, Fields, no_field, field, field_named, field_names, ValueTrees, no_tree, tree, are_among, is_among, same_number}
 use Rattle.asn_meaning.specs.Written.{NamedValues, Written, AllWritten, NullWritten, TruthWritten, NumberWritten, RealWritten, TextWritten, BitsWritten, BitNamesWritten, OctetsWritten, ArcsWritten, ItemWritten, NameWritten, BracesWritten, FieldsWritten, ElementsWritten, AlternativeWritten, NestedWritten, as_written}
 use Rattle.asn_meaning.proofs.Fits.{fits_unfolds, known_of, later_fits, own_head}
-use Rattle.asn_meaning.proofs.Steps.{more_known, one_more}
+use Rattle.asn_meaning.proofs.Steps.{one_more}
 use Rattle.asn_meaning.proofs.Ways.{head_is_head}
 
 -- ---- rows

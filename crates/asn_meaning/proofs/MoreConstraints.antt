@@ -6,7 +6,7 @@ use Rattle.asn_tree.specs.declared.constraints.SubtypeElement.{SubtypeElement-F}
 use Rattle.asn_tree.specs.declared.types.ChoiceOption.{ChoiceOption}
 use Rattle.asn_tree.specs.declared.values.ASN1Value.{ASN1Value}
 use Rattle.asn_meaning.specs.Answers.{Answer, Yes, No, Unknown, Denotation, Denoted, Nothing, Unsure, Refines, Within, Settles}
-use Rattle.asn_meaning.specs.Constraints.{chain_at, set_holds, constraint_at, constraint_holds, all_hold, part_holds, compared, single_holds, number_asked, range_holds, sizes, size_holds, alphabet_holds, component_holds, option_holds, listed_option_holds, choice_holds, member_holds, listed_member_holds, members_hold, struct_holds, inner_at, inner_holds, holds_at}
+use Rattle.asn_meaning.specs.Constraints.{chain_at, set_holds, constraint_at, constraint_holds, all_hold, part_holds, compared, single_holds, number_asked, side_holds, range_holds, sizes, size_holds, alphabet_holds, component_holds, option_holds, listed_option_holds, choice_holds, member_holds, listed_member_holds, members_hold, struct_holds, inner_at, inner_holds, holds_at}
 use Rattle.asn_meaning.specs.Kinds.{Kind, ChoiceKind, StructKind, kind_of}
 use Rattle.asn_meaning.specs.Layers.{ConstraintLayer, ElementLayer, InnerLayer, ListedLayer, OptionLayer, SetLayer}
 use Rattle.asn_meaning.specs.Meaning.{Meaning, Member, Parent, ValuesOf, CharactersOf}
@@ -20,11 +20,14 @@ use Rattle.asn_meaning.proofs.Answering.{same_refines, both_refines, each_refine
 use Rattle.asn_meaning.proofs.Chains.{ranked_kept}
 use Rattle.asn_meaning.proofs.More.{More, KnownBetter}
 use Rattle.asn_meaning.proofs.MoreMembers.{list_judged_more}
-use Rattle.asn_meaning.proofs.MoreRanges.{answers_keep, by_parent, same_parent, codes_same, range_more, narrowed_more}
+use Rattle.asn_meaning.proofs.MoreRanges.{answers_keep, by_parent, same_parent, codes_same, from_low_more, up_to_high_more, narrowed_more}
 
-range_holds_more : (x y : Option Numbers) (i : Option ℤ) → Within x y → Refines (range_holds x i) (range_holds y i)
-range_holds_more x y None p = refl
-range_holds_more x y (Some i) p = once_refines x y _ _ p (λ s. same_refines _)
+side_holds_more : (x y : Option Numbers) (i : ℤ) → Within x y → Refines (side_holds x i) (side_holds y i)
+side_holds_more x y i p = once_refines x y _ _ p (λ s. same_refines _)
+
+range_holds_more : (l m h k : Option Numbers) (i : Option ℤ) → Within l m → Within h k → Refines (range_holds l h i) (range_holds m k i)
+range_holds_more l m h k None p q = refl
+range_holds_more l m h k (Some i) p q = both_refines _ _ _ _ (side_holds_more l m i p) (side_holds_more h k i q)
 
 compared_same : (parent : Parent) (t : ValueTree) (x y : Denotation ValueTree) → Settles x y → Refines (compared parent t x) (compared parent t y)
 compared_same parent t (Denoted u) y p = subst (λ z. Refines (compared parent t (Denoted u)) (compared parent t z)) (sym p) (same_refines _)
@@ -66,10 +69,10 @@ module _ (M N : Meaning) (m : More M N) where
       (subst (λ z. Refines (compared (ValuesOf head x) t (M.denotes scope v head)) z) (compared_values head x y t (N.denotes scope v head)) (compared_same (ValuesOf head x) t _ _ (m.denotes scope v head))))
       (λ codes. unless_refines _ _ _ _ (m.is_all scope v _) (compared_same (CharactersOf codes) t _ _ (m.denotes scope v _))) a b k
 
-  asked_more : (a b : Parent) → KnownBetter a b → (r s : Option Numbers) (t : ValueTree) → Within r s → Refines (range_holds r (number_asked a t)) (range_holds s (number_asked b t))
-  asked_more a b k r s t p =
-      by_parent (λ x y. Refines (range_holds r (number_asked x t)) (range_holds s (number_asked y t)))
-      (λ head x y q. range_holds_more r s (number_asked (ValuesOf head x) t) p) (λ codes. range_holds_more r s (number_asked (CharactersOf codes) t) p) a b k
+  asked_more : (a b : Parent) → KnownBetter a b → (l n h r : Option Numbers) (t : ValueTree) → Within l n → Within h r → Refines (range_holds l h (number_asked a t)) (range_holds n r (number_asked b t))
+  asked_more a b k l n h r t p q =
+      by_parent (λ x y. Refines (range_holds l h (number_asked x t)) (range_holds n r (number_asked y t)))
+      (λ head x y z. range_holds_more l n h r (number_asked (ValuesOf head x) t) p q) (λ codes. range_holds_more l n h r (number_asked (CharactersOf codes) t) p q) a b k
 
   size_more : (scope : Scope) (set : ElementOrSetOperation) (t : ValueTree) → Refines (size_holds M scope set t) (size_holds N scope set t)
   size_more scope set t = given_refines No (counted t) _ _ (λ n. set_more scope sizes sizes (same_parent sizes) set _)
@@ -124,7 +127,7 @@ module _ (M N : Meaning) (m : More M N) where
   holds_at_more scope a b k t (SubtypeElement-F.SingleValue v e) = single_more scope a b k v t
   holds_at_more scope a b k t (SubtypeElement-F.ContainedSubtype ty e) = m.accepts _ [] t
   holds_at_more scope a b k t (SubtypeElement-F.TypeConstraint ty) = m.accepts _ [] t
-  holds_at_more scope a b k t (SubtypeElement-F.ValueRange low high low_open high_open e) = asked_more a b k _ _ t (range_more M N m scope a b k low high low_open high_open)
+  holds_at_more scope a b k t (SubtypeElement-F.ValueRange low high low_open high_open e) = asked_more a b k _ _ _ _ t (from_low_more M N m scope a b k low_open low) (up_to_high_more M N m scope a b k high_open high)
   holds_at_more scope a b k t (SubtypeElement-F.PermittedAlphabet set) = alphabet_more scope a b k set t
   holds_at_more scope a b k t (SubtypeElement-F.SizeConstraint set) = size_more scope set t
   holds_at_more scope a b k t (SubtypeElement-F.SingleTypeConstraint cs) = component_more scope a b k cs t

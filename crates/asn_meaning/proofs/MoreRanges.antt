@@ -4,7 +4,7 @@ use Rattle.asn_tree.specs.declared.constraints.Constraint.{Constraint, Constrain
 use Rattle.asn_tree.specs.declared.constraints.ElementOrSetOperation.{ElementOrSetOperation}
 use Rattle.asn_tree.specs.declared.constraints.SubtypeElement.{SubtypeElement-F, out-SubtypeElement}
 use Rattle.asn_tree.specs.declared.values.ASN1Value.{ASN1Value}
-use Rattle.asn_meaning.specs.Answers.{Answer, Yes, No, Unknown, Denotation, Denoted, Nothing, Unsure, Refines, Within, Settles}
+use Rattle.asn_meaning.specs.Answers.{Answer, Denotation, Denoted, Nothing, Unsure, Refines, Within, Settles}
 use Rattle.asn_meaning.specs.Definitions.{Definitions}
 use Rattle.asn_meaning.specs.Layers.{ConstraintLayer, ElementLayer}
 use Rattle.asn_meaning.specs.Meaning.{Meaning, Parent, ValuesOf, CharactersOf}
@@ -83,15 +83,15 @@ module _ (M N : Meaning) (m : More M N) where
   end_more scope v a b k =
       by_parent (λ x y. Settles (end_denoted M scope x v) (end_denoted N scope y v)) (λ head x y p. whole_settles _ _ (m.denotes scope v _)) (λ codes. character_settles _ _ (m.denotes scope v _)) a b k
 
-  from_low_more : (scope : Scope) (a b : Parent) → KnownBetter a b → (is_open : Bool) (v : Option ASN1Value) → Within (from_low M scope a is_open v) (from_low N scope b is_open v)
+  pub from_low_more : (scope : Scope) (a b : Parent) → KnownBetter a b → (is_open : Bool) (v : Option ASN1Value) → Within (from_low M scope a is_open v) (from_low N scope b is_open v)
   from_low_more scope a b k is_open None = parent_end_within _ is_open _ _ (numbers_of_more a b k)
   from_low_more scope a b k is_open (Some v) = beside_within _ _ _ (end_more scope v a b k)
 
-  up_to_high_more : (scope : Scope) (a b : Parent) → KnownBetter a b → (is_open : Bool) (v : Option ASN1Value) → Within (up_to_high M scope a is_open v) (up_to_high N scope b is_open v)
+  pub up_to_high_more : (scope : Scope) (a b : Parent) → KnownBetter a b → (is_open : Bool) (v : Option ASN1Value) → Within (up_to_high M scope a is_open v) (up_to_high N scope b is_open v)
   up_to_high_more scope a b k is_open None = parent_end_within _ is_open _ _ (numbers_of_more a b k)
   up_to_high_more scope a b k is_open (Some v) = beside_within _ _ _ (end_more scope v a b k)
 
-  pub range_more : (scope : Scope) (a b : Parent) → KnownBetter a b → (low high : Option ASN1Value) (low_open high_open : Bool) → Within (range M scope a low high low_open high_open) (range N scope b low high low_open high_open)
+  range_more : (scope : Scope) (a b : Parent) → KnownBetter a b → (low high : Option ASN1Value) (low_open high_open : Bool) → Within (range M scope a low high low_open high_open) (range N scope b low high low_open high_open)
   range_more scope a b k low high low_open high_open = lifted_within _ _ _ _ _ (from_low_more scope a b k low_open low) (up_to_high_more scope a b k high_open high)
 
   single_numbers_more : (scope : Scope) (p : Place) (v : ASN1Value) → Within (number_of_single M scope p v) (number_of_single N scope p v)

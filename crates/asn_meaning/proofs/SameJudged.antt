@@ -1,7 +1,7 @@
 -- Trees that are the same are judged alike.
 use Rattle.std.specs.Prelude.{is_none, is_some, not, pos, if◌then◌else◌}
 use Rattle.std.specs.Str.{bytes_eq}
-use Rattle.std.proofs.Common.{◌≡◌, ℕ, zero, suc, ℤ, Bool, true, false, ◌&&◌, ◌||◌, List, [], ◌∷◌, Option, Some, None, refl, sym, subst, ap, ◌∙◌}
+use Rattle.std.proofs.Common.{◌≡◌, ℕ, zero, suc, Bool, true, false, ◌||◌, List, [], ◌∷◌, Option, Some, None, refl, sym, ap, ◌∙◌}
 use Rattle.asn_tree.specs.declared.constraints.Constraint.{Constraint, Constraint-F, out-Constraint}
 use Rattle.asn_tree.specs.declared.constraints.ElementOrSetOperation.{ElementOrSetOperation}
 use Rattle.asn_tree.specs.declared.constraints.SubtypeElement.{SubtypeElement, SubtypeElement-F, out-SubtypeElement}
@@ -9,7 +9,7 @@ use Rattle.asn_tree.specs.declared.types.ASN1Type.{ASN1Type}
 use Rattle.asn_tree.specs.declared.types.ChoiceOption.{ChoiceOption}
 use Rattle.asn_meaning.specs.Accepts.{place, judge}
 use Rattle.asn_meaning.specs.Answers.{Answer, Yes, No, Unknown, answer_of, both, either, denied, each, once, unless_all, Denotation, Denoted, Nothing, Unsure}
-use Rattle.asn_meaning.specs.Constraints.{all_hold, alphabet_holds, choice_holds, compared, component_holds, constraint_at, constraint_holds, holds_at, inner_at, inner_holds, is_left_out, is_listed, is_value, listed_member_holds, listed_option_holds, member_holds, members_hold, number_asked, occurs, option_holds, part_holds, range_holds, set_holds, single_holds, size_holds, sizes, struct_holds}
+use Rattle.asn_meaning.specs.Constraints.{all_hold, alphabet_holds, choice_holds, compared, component_holds, constraint_at, constraint_holds, holds_at, inner_at, inner_holds, is_listed, is_value, listed_member_holds, listed_option_holds, member_holds, members_hold, number_asked, occurs, option_holds, part_holds, range_holds, set_holds, sizes, struct_holds}
 use Rattle.asn_meaning.specs.Definitions.{Definitions}
 use Rattle.asn_meaning.specs.Judge.{accepts_at, characters_at, head_accepts, in_set, meaning, member_accepts, nothing_known, option_accepts, parts_accepted, stands_for, step}
 use Rattle.asn_meaning.specs.Kinds.{Kind, CharacterStringKind, ChoiceKind, ListKind, ReferenceKind, SelectionKind, StructKind, kind_of}
@@ -17,13 +17,13 @@ use Rattle.asn_meaning.specs.Layers.{ConstraintLayer, ElementLayer, InnerLayer, 
 use Rattle.asn_meaning.specs.Meaning.{Meaning, Member, Parent, ValuesOf, CharactersOf}
 use Rattle.asn_meaning.specs.Members.{element_place, member_named, member_names, member_place}
 use Rattle.asn_meaning.specs.Names.{Lead, IsHead, LeadsTo, IsLost, lead, option_named}
-use Rattle.asn_meaning.specs.Numbers.{Chain, answers, Numbers, ranked}
-use Rattle.asn_meaning.specs.Ranges.{all_constraints, is_free, narrowed, numbers_before, range, restricted, value_place}
+use Rattle.asn_meaning.specs.Numbers.{answers, Numbers}
+use Rattle.asn_meaning.specs.Ranges.{all_constraints, from_low, is_free, narrowed, numbers_before, restricted, up_to_high, value_place}
 use Rattle.asn_meaning.specs.Scopes.{Scope, Place}
-use Rattle.asn_meaning.specs.Shapes.{Asking, choice_judged, fields_judged, fits_at, head_fits, is_of_kind, kind_or_parts, list_judged, member_judged, option_place, parts_fit, struct_judged, trees_judged}
-use Rattle.asn_meaning.specs.ValueTrees.{ValueTree, Characters, Struct, Elements, Alternative, WholeNumber, Fields, no_field, field, field_named, field_names, ValueTrees, no_tree, tree, are_among, counted, is_among, same_tree, same_trees, size_of}
+use Rattle.asn_meaning.specs.Shapes.{Asking, choice_judged, fields_judged, is_of_kind, kind_or_parts, list_judged, member_judged, option_place, struct_judged, trees_judged}
+use Rattle.asn_meaning.specs.ValueTrees.{ValueTree, Struct, Elements, Alternative, WholeNumber, Fields, field_named, ValueTrees, no_tree, tree, are_among, counted, is_among, same_tree, same_trees, size_of}
 use Rattle.asn_meaning.proofs.Chains.{Keeps, ranked_kept}
-use Rattle.asn_meaning.proofs.Same.{BothSame, SameMaps, among_by, by_view, in_names, maps_turned, named_is_among, no_view, out_names, same_to, trees_view}
+use Rattle.asn_meaning.proofs.Same.{BothSame, SameMaps, among_by, by_view, maps_turned, named_is_among, no_view, out_names, same_to, trees_view}
 
 -- ---- joining
 
@@ -218,7 +218,7 @@ module _ (M : Meaning) (accepted : (p : Place) (cs : List Constraint) → Respec
   holds_same : (s : Scope) (parent : Parent) (l : ElementLayer) (t u : ValueTree) → same_tree t u ≡ true → holds_at M s parent t l ≡ holds_at M s parent u l
   holds_same s parent (SubtypeElement-F.SingleValue v x) t u e = ap (unless_all Yes Unknown (M.is_all s v (value_place parent))) (compared_same parent (M.denotes s v (value_place parent)) t u e)
   holds_same s parent (SubtypeElement-F.ContainedSubtype ty x) t u e = accepted _ [] t u e
-  holds_same s parent (SubtypeElement-F.ValueRange low high low_open high_open x) t u e = ap (range_holds (range M s parent low high low_open high_open)) (asked_same parent t u e)
+  holds_same s parent (SubtypeElement-F.ValueRange low high low_open high_open x) t u e = ap (range_holds (from_low M s parent low_open low) (up_to_high M s parent high_open high)) (asked_same parent t u e)
   holds_same s parent (SubtypeElement-F.PermittedAlphabet set) t u e = alphabet_same s parent set t u e
   holds_same s parent (SubtypeElement-F.SizeConstraint set) t u e = ap (λ o. once No o (λ n. set_holds M s sizes set (WholeNumber (pos n)))) (counted_same t u e)
   holds_same s parent (SubtypeElement-F.TypeConstraint ty) t u e = accepted _ [] t u e

@@ -1,7 +1,6 @@
 -- One level of each tree whose tags are changed.
-use Rattle.std.proofs.Common.{◌≡◌, ℕ, List, [], ◌∷◌, ◌++◌, map, Option, Some, None, refl, sym, ap, ◌∙◌}
-use Rattle.std.specs.Option.{option_map}
-use Rattle.asn_tree.specs.Passes.{constraint_parts, constraint_rewritten, element_parts, element_rewritten, field_parts, field_rewritten, fields_parts, fields_rewritten, item_parts, item_rewritten, linked_parts, linked_rewritten, list_parts, list_rewritten, choice_parts, choice_rewritten, member_parts, member_rewritten, operation_parts, operation_rewritten, option_parts, option_rewritten, parameter_parts, parameter_rewritten, set_parts, set_rewritten, struct_parts, struct_rewritten, type_parts, type_rewritten, value_parts, value_rewritten, rewritten_choice, rewritten_constraint, rewritten_element, rewritten_field, rewritten_fields, rewritten_item, rewritten_linked, rewritten_list, rewritten_member, rewritten_operation, rewritten_option, rewritten_parameter, rewritten_set, rewritten_struct, rewritten_type, rewritten_value}
+use Rattle.std.proofs.Common.{◌≡◌, ℕ, List, [], ◌∷◌, ◌++◌, map, Option, refl, sym, ap, ◌∙◌}
+use Rattle.asn_tree.specs.Passes.{constraint_parts, constraint_rewritten, element_parts, element_rewritten, field_parts, field_rewritten, fields_parts, fields_rewritten, item_parts, item_rewritten, linked_parts, linked_rewritten, list_parts, list_rewritten, choice_parts, choice_rewritten, member_parts, member_rewritten, operation_parts, operation_rewritten, option_parts, option_rewritten, parameter_parts, parameter_rewritten, set_parts, set_rewritten, struct_parts, struct_rewritten, type_parts, type_rewritten, value_parts, value_rewritten, rewritten_choice, rewritten_element, rewritten_field, rewritten_fields, rewritten_item, rewritten_linked, rewritten_list, rewritten_member, rewritten_operation, rewritten_option, rewritten_parameter, rewritten_set, rewritten_struct}
 use Rattle.asn_tree.specs.declared.constraints.Constraint.{Constraint, out-Constraint, out-roll-Constraint}
 use Rattle.asn_tree.specs.declared.constraints.ElementOrSetOperation.{ElementOrSetOperation, out-ElementOrSetOperation, out-roll-ElementOrSetOperation}
 use Rattle.asn_tree.specs.declared.constraints.Parameter.{Parameter, out-Parameter, out-roll-Parameter}
@@ -22,10 +21,10 @@ use Rattle.asn_kinds.specs.declared.values.StructLikeFieldValueOver.{StructLikeF
 use Rattle.asn_kinds.specs.declared.values.StructLikeFieldValueOver.TheVariants.{Explicit, Implicit}
 use Rattle.asn_notation.specs.Types.{constraints_at, constraints_of}
 use Rattle.asn_meaning.specs.Placed.{listed}
-use Rattle.asn_meaning.specs.Kinds.{Kind, NullKind, BooleanKind, IntegerKind, RealKind, BitStringKind, OctetStringKind, CharacterStringKind, TimeKind, EnumeratedKind, ObjectIdentifierKind, OpaqueKind, StructKind, ListKind, ChoiceKind, FieldKind, ReferenceKind, SelectionKind, kind_at, kind_of_type}
-use Rattle.asn_meaning.specs.Layers.{ClassFieldLayer, LinkedLayer, MemberLayer, OptionLayer, ReferenceLayer, StructLayer, TypeLayer, ValueLayer}
+use Rattle.asn_meaning.specs.Kinds.{Kind, StructKind, ListKind, ChoiceKind, FieldKind, ReferenceKind, kind_at, kind_of_type}
+use Rattle.asn_meaning.specs.Layers.{ClassFieldLayer, LinkedLayer, MemberLayer, OptionLayer, ReferenceLayer, TypeLayer, ValueLayer}
 use Rattle.asn_meaning.specs.Tags.{TagChange, tagging, tagged, tagged_constraint, tagged_value}
-use Rattle.asn_meaning.specs.Written.{NamedValues, Items, Written, AllWritten, NullWritten, TruthWritten, NumberWritten, RealWritten, TextWritten, BitsWritten, BitNamesWritten, OctetsWritten, ArcsWritten, ItemWritten, NameWritten, BracesWritten, FieldsWritten, ElementsWritten, AlternativeWritten, NestedWritten, explicit_field, explicit_fields, if_explicit, as_written, written_at}
+use Rattle.asn_meaning.specs.Written.{Written, BracesWritten, FieldsWritten, ElementsWritten, AlternativeWritten, NestedWritten, explicit_field, explicit_fields, if_explicit, as_written, written_at}
 
 module _ (f : TagChange) where
   abbrev pub each_constraint : List Constraint → List Constraint

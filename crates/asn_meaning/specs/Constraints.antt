@@ -17,7 +17,7 @@ use Rattle.asn_meaning.specs.Meaning.{Meaning, Member, Parent, ValuesOf, Charact
 use Rattle.asn_meaning.specs.Members.{element_place, member_named, member_place}
 use Rattle.asn_meaning.specs.Names.{option_named}
 use Rattle.asn_meaning.specs.Numbers.{Chain, Numbers, answers, numbers_from, ranked}
-use Rattle.asn_meaning.specs.Ranges.{codes_of, integer_named, is_free, narrowed, range, value_place}
+use Rattle.asn_meaning.specs.Ranges.{codes_of, from_low, integer_named, is_free, narrowed, up_to_high, value_place}
 use Rattle.asn_meaning.specs.Scopes.{Scope, Place}
 use Rattle.asn_meaning.specs.Shapes.{list_judged, option_place}
 use Rattle.asn_meaning.specs.ValueTrees.{ValueTree, WholeNumber, Characters, Struct, Alternative, Fields, field_named, counted, same_tree}
@@ -84,10 +84,15 @@ number_asked (ValuesOf head numbers) (WholeNumber i) = Some i
 number_asked (CharactersOf codes) (Characters (c ∷ [])) = Some (pos c)
 number_asked _ _ = None
 
--- A range holds of the numbers between its ends (X.680 51.4).
-abbrev pub range_holds : Option Numbers → Option ℤ → Answer
-range_holds s None = No
-range_holds s (Some i) = once Unknown s (λ x. answer_of (x.has i))
+-- whether a number lies on the side of an end that a range has, once the numbers of that side are known
+abbrev pub side_holds : Option Numbers → ℤ → Answer
+side_holds side i = once Unknown side (λ s. answer_of (s.has i))
+
+-- A range holds of the numbers from its lower end on and up to its upper one (X.680 51.4). Each end is asked alone, so a
+-- number beyond one of them is out of the range, whatever the other is.
+abbrev pub range_holds : Option Numbers → Option Numbers → Option ℤ → Answer
+range_holds low high None = No
+range_holds low high (Some i) = both (side_holds low i) (side_holds high i)
 
 -- ---- sizes and characters
 
@@ -188,7 +193,7 @@ abbrev pub holds_at : Meaning → Scope → Parent → ValueTree → ElementLaye
 holds_at M scope parent t (SubtypeElement-F.SingleValue v extensible) = single_holds M scope parent v t
 holds_at M scope parent t (SubtypeElement-F.ContainedSubtype ty extensible) = M.accepts (record { scope = scope; ty = ty }) [] t
 holds_at M scope parent t (SubtypeElement-F.ValueRange low high low_open high_open extensible) =
-    range_holds (range M scope parent low high low_open high_open) (number_asked parent t)
+    range_holds (from_low M scope parent low_open low) (up_to_high M scope parent high_open high) (number_asked parent t)
 holds_at M scope parent t (SubtypeElement-F.PermittedAlphabet set) = alphabet_holds M scope parent set t
 holds_at M scope parent t (SubtypeElement-F.SizeConstraint set) = size_holds M scope set t
 holds_at M scope parent t (SubtypeElement-F.TypeConstraint ty) = M.accepts (record { scope = scope; ty = ty }) [] t

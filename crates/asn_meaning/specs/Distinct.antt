@@ -1,5 +1,5 @@
 -- Members that share no name.
-use Rattle.std.specs.Prelude.{◌≡◌, ℕ, zero, suc, List, Option, Some, true}
+use Rattle.std.specs.Prelude.{◌≡◌, ℕ, zero, suc, List, Some, true}
 use Rattle.asn_meaning.specs.Definitions.{Definitions}
 use Rattle.asn_meaning.specs.Denotes.{are_distinct}
 use Rattle.asn_meaning.specs.Judge.{meaning}

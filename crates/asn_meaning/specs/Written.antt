@@ -1,5 +1,5 @@
 -- How values are written. Each form of value is met here once, with an arm of its own.
-use Rattle.std.specs.Prelude.{ℕ, Bool, ℤ, List, [], ◌∷◌, ◌++◌, Option, Some, None}
+use Rattle.std.specs.Prelude.{ℕ, Bool, ℤ, List, [], ◌∷◌, ◌++◌, Option}
 use Rattle.asn_headers.specs.declared.headers.ObjectIdentifierArc.{ObjectIdentifierArc}
 use Rattle.asn_words.specs.declared.plain.RealValue.{RealValue}
 use Rattle.asn_tree.specs.declared.values.ASN1Value.{ASN1Value, ASN1Value-F, out-ASN1Value}

@@ -11,7 +11,7 @@ use Rattle.asn_tree.specs.declared.values.ASN1Value.{ASN1Value}
 use Rattle.asn_tree.specs.Layers.{SetLayer}
 use Rattle.asn_meaning.specs.Accepts.{place}
 use Rattle.asn_meaning.specs.Answers.{Answer, Yes, No, Unknown, once, both, answer_of, Denoted, Unsure}
-use Rattle.asn_meaning.specs.Constraints.{all_hold, chain_at, constraint_at, constraint_holds, holds_at, range_holds, number_asked, set_holds}
+use Rattle.asn_meaning.specs.Constraints.{all_hold, chain_at, constraint_at, constraint_holds, holds_at, side_holds, range_holds, number_asked, set_holds}
 use Rattle.asn_meaning.specs.Definitions.{Definitions}
 use Rattle.asn_meaning.specs.Denotes.{denoted_under, is_open_kind, parts_row, row_or_parts, value_denoted}
 use Rattle.asn_meaning.specs.Judge.{meaning, step}
@@ -101,10 +101,13 @@ module _ (defs : Definitions) where
 
   -- ---- constraints
 
-  range_answer : (o : Option Numbers) (i : Option ℤ) → IsThere o → IsYesOrNo (range_holds o i)
-  range_answer o None there = tt
-  range_answer None (Some i) there = absurd cc
-  range_answer (Some s) (Some i) there = answer_known (s.has i)
+  side_answer : (o : Option Numbers) (i : ℤ) → IsThere o → IsYesOrNo (side_holds o i)
+  side_answer None i there = absurd cc
+  side_answer (Some s) i there = answer_known (s.has i)
+
+  range_answer : (low high : Option Numbers) (i : Option ℤ) → IsThere low → IsThere high → IsYesOrNo (range_holds low high i)
+  range_answer low high None p q = tt
+  range_answer low high (Some i) p q = both_known _ _ (side_answer low i p) (side_answer high i q)
 
   module _ (n : ℕ) (scope : Scope) (head : Place) where
     -- what is known within three steps more
@@ -113,7 +116,8 @@ module _ (defs : Definitions) where
 
     element_holds : (numbers : Option Numbers) (t : ValueTree) (l : ElementLayer) → basic_element l ≡ true → IsThere numbers → IsYesOrNo (holds_at (meaning defs (suc (suc n))) scope (ValuesOf head numbers) t l)
     element_holds numbers t (SubtypeElement-F.ValueRange low high low_open high_open extensible) h there =
-        range_answer _ (number_asked (ValuesOf head numbers) t) (range_there n scope head numbers low high low_open high_open h there)
+        let ends = both_true (basic_end low) (basic_end high) h in
+        range_answer _ _ (number_asked (ValuesOf head numbers) t) (low_there n scope head numbers low_open low ends.0 there) (high_there n scope head numbers high_open high ends.1 there)
     element_holds numbers t _ h there = absurd cc
 
     holds_known : (numbers : Option Numbers) (e : SubtypeElement) (t : ValueTree) → basic_element (out-SubtypeElement e) ≡ true → IsThere numbers → IsYesOrNo (Known.holds scope (ValuesOf head numbers) e t)

@@ -6,9 +6,10 @@ use Rattle.asn_tree.specs.declared.constraints.Parameter.{Parameter, Parameter-F
 use Rattle.asn_tree.specs.declared.definitions.ParameterGovernor.{ParameterGovernor}
 use Rattle.asn_tree.specs.declared.definitions.ParameterGovernor.TheVariants as governor
 use Rattle.asn_tree.specs.declared.definitions.ParameterizationArgument.{ParameterizationArgument}
+use Rattle.asn_tree.specs.declared.objects.InformationObjectClass.{InformationObjectClass}
 use Rattle.asn_meaning.specs.Accepts.{place}
 use Rattle.asn_meaning.specs.Answers.{once}
-use Rattle.asn_meaning.specs.Definitions.{Definitions, information_named, class_in, object_in, is_class}
+use Rattle.asn_meaning.specs.Definitions.{Definitions, information_named, class_in, class_named, object_in, is_class}
 use Rattle.asn_meaning.specs.Kinds.{Kind, FieldKind, ReferenceKind, SelectionKind, kind_of, kind_of_type}
 use Rattle.asn_meaning.specs.Layers.{ParameterLayer, ReferenceLayer}
 use Rattle.asn_meaning.specs.Meaning.{Meaning}
@@ -25,6 +26,10 @@ is_free_dummy scope name = once false (bound_to scope name) (λ b. is_none b.arg
 
 abbrev pub is_dummy : Scope → List ℕ → Bool
 is_dummy scope name = is_some (bound_to scope name)
+
+-- the class that a name stands for in a scope; a dummy is no class, also where one of its name is defined (X.683 8.4)
+abbrev pub class_in_scope : Definitions → Scope → List ℕ → Option InformationObjectClass
+class_in_scope defs scope name = if is_dummy scope name then None else class_named defs name
 
 -- The scope that an argument list gives, also where arguments are missing: a dummy without an argument stands for none.
 -- Without arguments it is the scope of the template by itself (X.683 8.4, 9.7).

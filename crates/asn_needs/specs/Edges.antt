@@ -1,5 +1,7 @@
 -- The edges that a place gives: the definitions and fields of classes that are followed from it.
 use Rattle.std.specs.Prelude.{ℕ, zero, suc, List, [], ◌++◌, Bool, true, false, Option, Some, None, is_some, is_none, ◌||◌, ◌&&◌, not, if◌then◌else◌}
+use Rattle.asn_tree.specs.declared.constraints.Parameter.{out-Parameter}
+use Rattle.asn_tree.specs.declared.objects.InformationObjectField.{out-InformationObjectField}
 use Rattle.asn_tree.specs.declared.values.ASN1Value.{ASN1Value}
 use Rattle.asn_meaning.specs.Accepts.{place}
 use Rattle.asn_meaning.specs.Answers.{once}
@@ -8,9 +10,10 @@ use Rattle.asn_meaning.specs.Kinds.{Kind, FieldKind, ReferenceKind, SelectionKin
 use Rattle.asn_meaning.specs.Names.{lead}
 use Rattle.asn_meaning.specs.Scopes.{Scope, Place}
 use Rattle.asn_meaning.specs.Written.{Written, AllWritten, NameWritten, as_written}
-use Rattle.asn_needs.specs.Dummies.{is_class_name, is_dummy, name_of_value, next_place}
+use Rattle.asn_needs.specs.Dummies.{argument_name, is_class_name, is_dummy, name_of_value, next_place}
 use Rattle.asn_needs.specs.Followed.{followed_in_value, followed_to_parts, followed_to_head, named_place, to_field, to_name, undummied}
 use Rattle.asn_needs.specs.Occurrences.{has_list, is_own_name}
+use Rattle.asn_needs.specs.PartsOfObjects.{unclassed_name}
 use Rattle.asn_needs.specs.PartsOfTypes.{instance_at}
 use Rattle.asn_needs.specs.Sites.{Seen, Site, each_of, Form, TypePlace, AtHead, OfField, AtHeadOfField, InPlace, ValuePlace, AsSuch, AsEnd, AsBound, AsSingle, Inside, AType, ComponentsOf, AValue, AConstraint, ASet, AnElement, AListed, LooseList, AnArgument, NoArgument, LooseArgument, ADummy, ClassName, ClassField, AnObject, GivenField, LooseField, AnObjectSet, SetName, Node}
 
@@ -126,13 +129,13 @@ edges_of S s (AListed c p) = []
 edges_of S s LooseList = []
 edges_of S s (AnArgument p dummy inner) = []
 edges_of S s NoArgument = []
-edges_of S s (LooseArgument p) = []
+edges_of S s (LooseArgument p) = once [] (argument_name (out-Parameter p)) (value_edge S s.scope None)
 edges_of S s (ADummy dummy) = []
 edges_of S s (ClassName name) = undummied S.defs s.scope name
 edges_of S s (ClassField at f) = []
 edges_of S s (AnObject c fields) = []
-edges_of S s (GivenField c f) = []
-edges_of S s (LooseField f) = []
+edges_of S s (GivenField c f) = once [] (unclassed_name c (out-InformationObjectField f)) (undummied S.defs s.scope)
+edges_of S s (LooseField f) = once [] (unclassed_name None (out-InformationObjectField f)) (undummied S.defs s.scope)
 edges_of S s (AnObjectSet c set) = []
 edges_of S s (SetName name) = undummied S.defs s.scope name
 

@@ -1,6 +1,7 @@
 -- Which names occur at a place: of what kind each must be, in which scope it is read, and under which type.
 use Rattle.std.specs.Prelude.{ℕ, List, [], ◌∷◌, Bool, true, false, Option, Some, None, is_some, ◌||◌, ◌&&◌, not, nat_eq, if◌then◌else◌}
 use Rattle.std.specs.List.{Contains, list_any}
+use Rattle.asn_tree.specs.declared.constraints.Parameter.{out-Parameter}
 use Rattle.asn_tree.specs.declared.definitions.Parameterization.{Parameterization}
 use Rattle.asn_tree.specs.declared.definitions.ParameterGovernor.{ParameterGovernor}
 use Rattle.asn_tree.specs.declared.definitions.ParameterGovernor.TheVariants as governor
@@ -8,6 +9,7 @@ use Rattle.asn_tree.specs.declared.definitions.ToplevelDefinition.{ToplevelDefin
 use Rattle.asn_tree.specs.declared.definitions.ToplevelDefinition.TheVariants.{TypeDef, Value, Information}
 use Rattle.asn_tree.specs.declared.objects.ASN1Information.{ASN1Information}
 use Rattle.asn_tree.specs.declared.objects.ASN1Information.TheVariants.{ObjectClass, ObjectSet, Object}
+use Rattle.asn_tree.specs.declared.objects.InformationObjectField.{out-InformationObjectField}
 use Rattle.asn_meaning.specs.Answers.{once}
 use Rattle.asn_meaning.specs.Definitions.{Definitions, see}
 use Rattle.asn_meaning.specs.Denotes.{own_name}
@@ -16,7 +18,8 @@ use Rattle.asn_meaning.specs.Layers.{ReferenceLayer}
 use Rattle.asn_meaning.specs.Names.{lists_in}
 use Rattle.asn_meaning.specs.Scopes.{Scope, Place}
 use Rattle.asn_meaning.specs.Written.{Written, NameWritten, as_written}
-use Rattle.asn_needs.specs.Dummies.{hangs, is_class_name, is_dummy, name_of_value}
+use Rattle.asn_needs.specs.Dummies.{argument_name, hangs, is_class_name, is_dummy, name_of_value}
+use Rattle.asn_needs.specs.PartsOfObjects.{unclassed_name}
 use Rattle.asn_needs.specs.Sites.{Seen, Site, Form, TypePlace, AtHead, OfField, AtHeadOfField, InPlace, AType, ComponentsOf, AValue, AConstraint, ASet, AnElement, AListed, LooseList, AnArgument, NoArgument, LooseArgument, ADummy, ClassName, ClassField, AnObject, GivenField, LooseField, AnObjectSet, SetName, Node}
 use Rattle.asn_needs.specs.Stands.{StandsIn, node_sites}
 
@@ -62,6 +65,10 @@ pub data Need : Type 0 where
   NeedsObject : Need
   -- an object or a set in a set (X.681 12)
   NeedsObjectOrSet : Need
+  -- what a field is given where its class is not asked (X.681 11.4)
+  NeedsValueOrObject : Need
+  -- an argument for which no dummy stands, of whatever kind it is
+  NeedsAny : Need
 
 abbrev pub takes : Need → Sort → Bool
 takes NeedsType OfTypes = true
@@ -74,6 +81,9 @@ takes NeedsClass OfClasses = true
 takes NeedsObject OfObjects = true
 takes NeedsObjectOrSet OfObjects = true
 takes NeedsObjectOrSet OfSets = true
+takes NeedsValueOrObject OfValues = true
+takes NeedsValueOrObject OfObjects = true
+takes NeedsAny sort = true
 takes _ _ = false
 
 -- A name that occurs: what its place needs, whether an argument list stands behind it, the scope that it is read in, and the
@@ -112,6 +122,10 @@ has_list x = elim (lists_in x.constraints) [ [] ↦ false | a ∷ others ↦ tru
 abbrev pub occurring : Scope → Option Place → Need → List ℕ → Bool → List Occurrence
 occurring scope p need name listed =
     if is_dummy scope name then [] else record { need = need; name = name; has_list = listed; scope = scope; governing = p } ∷ []
+
+-- the plain name that something is, if it is one
+abbrev pub occurring_plainly : Scope → Option Place → Need → Option (List ℕ) → List Occurrence
+occurring_plainly scope p need name = once [] name (λ n. occurring scope p need n false)
 
 -- the object of a path; several names are no object
 abbrev pub object_occurring : Scope → Option Place → List ℕ → List Occurrence
@@ -154,7 +168,7 @@ names_in_value S scope p _ = []
 
 -- under a class a value is the name of an object
 abbrev pub names_under_class : Scope → Option Place → Written → List Occurrence
-names_under_class scope p w = once [] (name_of_value w) (λ name. occurring scope p NeedsObject name false)
+names_under_class scope p w = occurring_plainly scope p NeedsObject (name_of_value w)
 
 abbrev pub governed_by_class : Seen → Option Place → Bool
 governed_by_class S p = once false p (is_class_name S.defs)
@@ -180,13 +194,13 @@ names_at S s (AListed c p) = []
 names_at S s LooseList = []
 names_at S s (AnArgument p dummy inner) = []
 names_at S s NoArgument = []
-names_at S s (LooseArgument p) = []
+names_at S s (LooseArgument p) = occurring_plainly s.scope None NeedsAny (argument_name (out-Parameter p))
 names_at S s (ADummy dummy) = names_in_governor s.scope dummy.param_governor
 names_at S s (ClassName name) = occurring s.scope None NeedsClass name false
 names_at S s (ClassField at f) = []
 names_at S s (AnObject c fields) = []
-names_at S s (GivenField c f) = []
-names_at S s (LooseField f) = []
+names_at S s (GivenField c f) = occurring_plainly s.scope None NeedsValueOrObject (unclassed_name c (out-InformationObjectField f))
+names_at S s (LooseField f) = occurring_plainly s.scope None NeedsValueOrObject (unclassed_name None (out-InformationObjectField f))
 names_at S s (AnObjectSet c set) = []
 names_at S s (SetName name) = occurring s.scope None NeedsObjectOrSet name false
 

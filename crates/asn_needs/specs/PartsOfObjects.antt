@@ -1,5 +1,5 @@
 -- What stands in an object, an object set and a class's field.
-use Rattle.std.specs.Prelude.{ℕ, List, [], ◌∷◌, ◌++◌, map, Bool, false, Option, Some, None, is_none, if◌then◌else◌}
+use Rattle.std.specs.Prelude.{ℕ, List, [], ◌∷◌, ◌++◌, map, Bool, false, Option, Some, None, is_none, is_some, if◌then◌else◌}
 use Rattle.asn_kinds.specs.declared.objects.ObjectSetValueOver.{ObjectSetValueOver}
 use Rattle.asn_kinds.specs.declared.objects.ObjectSetValueOver.TheVariants.{Reference, Inline}
 use Rattle.asn_tree.specs.declared.constraints.Parameter.{Parameter-F}
@@ -17,7 +17,7 @@ use Rattle.asn_meaning.specs.Layers.{FieldLayer, FieldsLayer, ItemLayer, Paramet
 use Rattle.asn_meaning.specs.Objects.{field_of, given_at}
 use Rattle.asn_meaning.specs.Scopes.{Empty, Place}
 use Rattle.asn_meaning.specs.Written.{as_written}
-use Rattle.asn_needs.specs.Dummies.{name_of_value}
+use Rattle.asn_needs.specs.Dummies.{argument_name, name_of_value}
 use Rattle.asn_needs.specs.Sites.{Site, beside, each_of, ObjectSet, TypePlace, AsSuch, InPlace, AType, AValue, AnObject, GivenField, LooseField, AnObjectSet, SetName}
 
 -- ---- objects
@@ -57,10 +57,21 @@ object_parts defs s c fields =
 abbrev pub type_in_class : Option InformationObjectClass → List ℕ → Option Place
 type_in_class c name = once None c (λ k. once None (field_of k name) (λ f. once None f.ty (λ ty. Some (place Empty ty))))
 
+-- The plain name that a field is given, where the class is not asked: it may be that of a value or of an object, and nothing
+-- stands in it (X.681 11.4).
+abbrev pub unclassed_name : Option InformationObjectClass → FieldLayer → Option (List ℕ)
+unclassed_name (Some c) f = None
+unclassed_name None (InformationObjectField-F.TypeField x) = None
+unclassed_name None (InformationObjectField-F.FixedValueField x) = name_of_value (as_written x.value)
+unclassed_name None (InformationObjectField-F.ObjectSetField x) = None
+
+abbrev pub setting_parts : Site → Option InformationObjectClass → FieldLayer → List Site
+setting_parts s c (InformationObjectField-F.TypeField x) = beside s (AType InPlace x.ty []) ∷ []
+setting_parts s c (InformationObjectField-F.FixedValueField x) = beside s (AValue AsSuch x.value (type_in_class c x.identifier)) ∷ []
+setting_parts s c (InformationObjectField-F.ObjectSetField x) = beside s (AnObjectSet None x.value) ∷ []
+
 abbrev pub given_parts : Site → Option InformationObjectClass → FieldLayer → List Site
-given_parts s c (InformationObjectField-F.TypeField x) = beside s (AType InPlace x.ty []) ∷ []
-given_parts s c (InformationObjectField-F.FixedValueField x) = beside s (AValue AsSuch x.value (type_in_class c x.identifier)) ∷ []
-given_parts s c (InformationObjectField-F.ObjectSetField x) = beside s (AnObjectSet None x.value) ∷ []
+given_parts s c f = if is_some (unclassed_name c f) then [] else setting_parts s c f
 
 -- ---- object sets
 
@@ -98,9 +109,12 @@ class_field_sites s at f = field_type_sites s at f.ty ++ field_default_sites s f
 
 -- ---- arguments without a dummy
 
--- names in them are judged all the same, kinds are not
+abbrev pub unnamed_parts : Site → ParameterLayer → List Site
+unnamed_parts s (Parameter-F.ValueParameter v) = beside s (AValue AsSuch v None) ∷ []
+unnamed_parts s (Parameter-F.TypeParameter ty) = beside s (AType InPlace ty []) ∷ []
+unnamed_parts s (Parameter-F.InformationObjectParameter fields) = loose_fields s fields
+unnamed_parts s (Parameter-F.ObjectSetParameter set) = beside s (AnObjectSet None set) ∷ []
+
+-- Names in them are judged all the same, kinds are not: nothing stands in a plain name, which may be that of any definition.
 abbrev pub loose_parts : Site → ParameterLayer → List Site
-loose_parts s (Parameter-F.ValueParameter v) = beside s (AValue AsSuch v None) ∷ []
-loose_parts s (Parameter-F.TypeParameter ty) = beside s (AType InPlace ty []) ∷ []
-loose_parts s (Parameter-F.InformationObjectParameter fields) = loose_fields s fields
-loose_parts s (Parameter-F.ObjectSetParameter set) = beside s (AnObjectSet None set) ∷ []
+loose_parts s p = if is_some (argument_name p) then [] else unnamed_parts s p

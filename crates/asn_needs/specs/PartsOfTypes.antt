@@ -14,7 +14,7 @@ use Rattle.asn_tree.specs.declared.types.SequenceOrSetMember.{out-SequenceOrSetM
 use Rattle.asn_notation.specs.Types.{constraints_of}
 use Rattle.asn_meaning.specs.Accepts.{place}
 use Rattle.asn_meaning.specs.Answers.{once}
-use Rattle.asn_meaning.specs.Definitions.{Definitions, type_named, class_named}
+use Rattle.asn_meaning.specs.Definitions.{Definitions, type_named}
 use Rattle.asn_meaning.specs.Denotes.{own_name}
 use Rattle.asn_meaning.specs.Kinds.{Kind, ChoiceKind, ListKind, ReferenceKind, StructKind, kind_of_type}
 use Rattle.asn_meaning.specs.Layers.{MemberLayer, OptionLayer, ParameterLayer, ReferenceLayer, StructLayer}
@@ -22,7 +22,7 @@ use Rattle.asn_meaning.specs.Names.{lists_in}
 use Rattle.asn_meaning.specs.Placed.{listed}
 use Rattle.asn_meaning.specs.Scopes.{Scope, Argument, Place}
 use Rattle.asn_meaning.specs.Written.{as_written}
-use Rattle.asn_needs.specs.Dummies.{argument_name, filled, handed_on, is_class_name, is_dummy, is_information, name_of_value, set_argument}
+use Rattle.asn_needs.specs.Dummies.{argument_name, class_in_scope, filled, handed_on, is_class_name, is_dummy, is_information, name_of_value, set_argument}
 use Rattle.asn_needs.specs.Sites.{Seen, Site, beside, each_of, TypePlace, AtHead, OfField, AtHeadOfField, InPlace, AsSuch, AType, ComponentsOf, AValue, AConstraint, LooseList, AnArgument, NoArgument, LooseArgument, ADummy, AnObjectSet}
 
 -- constraints on a type, or on a part that the constrained type lacks
@@ -161,13 +161,13 @@ value_argument_sites s p (Parameter-F.TypeParameter ty) = []
 value_argument_sites s p (Parameter-F.InformationObjectParameter fields) = []
 value_argument_sites s p (Parameter-F.ObjectSetParameter set) = []
 
--- A type where no governor stands, a value under its governor, an object set under its class. An argument of another kind
--- is wrong where it is written (X.683 8.3).
+-- A type where no governor stands, a value under its governor, an object set under its class. The governor is read in the
+-- template's scope, where it may be a dummy itself. An argument of another kind is wrong where it is written (X.683 8.3).
 abbrev pub governed_sites : Seen → Site → Parameter → Scope → ParameterGovernor → List Site
 governed_sites S s p inner governor.None = if is_written s.scope p then type_argument_sites s (out-Parameter p) else []
 governed_sites S s p inner (governor.TypeOrClass g) = if is_class_name S.defs (place inner g) then [] else value_argument_sites s (place inner g) (out-Parameter p)
 governed_sites S s p inner (governor.Class c) =
-    if is_written s.scope p then once [] (set_argument (out-Parameter p)) (λ set. beside s (AnObjectSet (class_named S.defs c) set) ∷ []) else []
+    if is_written s.scope p then once [] (set_argument (out-Parameter p)) (λ set. beside s (AnObjectSet (class_in_scope S.defs inner c) set) ∷ []) else []
 
 -- an argument, read where it is written
 abbrev pub here : Site → Parameter → Argument

@@ -19,8 +19,8 @@ use Rattle.asn_meaning.specs.Accepts.{place}
 use Rattle.asn_meaning.specs.Answers.{once}
 use Rattle.asn_meaning.specs.Definitions.{Definitions, class_named, last_named}
 use Rattle.asn_meaning.specs.Objects.{field_of}
-use Rattle.asn_meaning.specs.Scopes.{Empty}
-use Rattle.asn_needs.specs.Dummies.{filled}
+use Rattle.asn_meaning.specs.Scopes.{Scope, Empty}
+use Rattle.asn_needs.specs.Dummies.{class_in_scope, filled}
 use Rattle.asn_needs.specs.PartsOfConstraints.{constraint_parts, element_parts, listed_parts, set_parts}
 use Rattle.asn_needs.specs.PartsOfObjects.{class_field_sites, given_parts, loose_parts, object_parts, set_items}
 use Rattle.asn_needs.specs.PartsOfTypes.{argument_parts, governor_sites, type_sites}
@@ -61,18 +61,23 @@ dummies_of None = []
 dummies_of (Some t) = t.parameters
 
 -- a definition is read in the empty scope, a template by itself in that of its dummies without arguments
+abbrev pub own_scope : Option Parameterization → Scope
+own_scope t = filled Empty (dummies_of t) []
+
 abbrev pub outermost : Option Parameterization → Form → Site
-outermost t form = record { form = form; scope = filled Empty (dummies_of t) []; nest = []; is_opaque = false; way = [] }
+outermost t form = record { form = form; scope = own_scope t; nest = []; is_opaque = false; way = [] }
 
 abbrev pub class_link_name : Option ClassLink → List (List ℕ)
 class_link_name None = []
 class_link_name (Some (ByName name)) = name ∷ []
 class_link_name (Some (ByReference name c)) = name ∷ []
 
-abbrev pub information_forms : Definitions → Option ClassLink → ASN1Information → List Form
-information_forms defs link (ObjectClass c) = map (ClassField OfField) c.fields
-information_forms defs link (ObjectSet set) = each_of (λ name. ClassName name ∷ AnObjectSet (class_named defs name) set ∷ []) (class_link_name link)
-information_forms defs link (Object o) = ClassName o.class_name ∷ AnObject (class_named defs o.class_name) o.fields ∷ []
+-- The class of an object and of a set is read in the scope of its definition, where it may be a dummy.
+abbrev pub information_forms : Definitions → Scope → Option ClassLink → ASN1Information → List Form
+information_forms defs scope link (ObjectClass c) = map (ClassField OfField) c.fields
+information_forms defs scope link (ObjectSet set) =
+    each_of (λ name. ClassName name ∷ AnObjectSet (class_in_scope defs scope name) set ∷ []) (class_link_name link)
+information_forms defs scope link (Object o) = ClassName o.class_name ∷ AnObject (class_in_scope defs scope o.class_name) o.fields ∷ []
 
 abbrev pub dummy_forms : Option Parameterization → List Form
 dummy_forms t = map ADummy (dummies_of t)
@@ -82,9 +87,10 @@ first_sites defs (TypeDef d) = map (outermost d.parameterization) (AType AtHead 
 first_sites defs (Value d) =
     map (outermost d.parameterization)
     (AType AtHead d.associated_type []
-    ∷ AValue AsSuch d.value (Some (place (filled Empty (dummies_of d.parameterization) []) d.associated_type))
+    ∷ AValue AsSuch d.value (Some (place (own_scope d.parameterization) d.associated_type))
     ∷ dummy_forms d.parameterization)
-first_sites defs (Information d) = map (outermost d.parameterization) (information_forms defs d.class d.value ++ dummy_forms d.parameterization)
+first_sites defs (Information d) =
+    map (outermost d.parameterization) (information_forms defs (own_scope d.parameterization) d.class d.value ++ dummy_forms d.parameterization)
 
 -- A class's field is a node of its own: its type's head is one, and only what stands in this field stands in it.
 abbrev pub node_sites : Definitions → Node → List Site
