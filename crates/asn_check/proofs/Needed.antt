@@ -8,7 +8,7 @@ use Rattle.asn_names.specs.Definitions.{Definitions, last_named}
 use Rattle.asn_names.specs.Laws.{FaultsStand}
 use Rattle.asn_names.specs.Needed.{AreJudged, stands_as}
 use Rattle.asn_check.specs.Needed.{IsWarned, for_fault, for_several, warning_of, DueAreWarned, WarnsOfFaults}
-use Rattle.asn_check.specs.Warnings.{Warning, AreWarnings, IsDue, of_its_fault, of_several, warning, warning_for}
+use Rattle.asn_check.specs.Warnings.{Warning, AreWarnings, IsDue, of_its_fault, of_several, warning_for}
 
 told_alike : (name : List ℕ) (f : Warned) → warning_of name (stands_as f) ≡ warning_for name f
 told_alike name warned.MissingDependency = refl

@@ -1,8 +1,7 @@
 -- The linked definitions keep the meaning of the reading.
-use Rattle.std.proofs.Common.{◌≡◌, None, sym, subst}
+use Rattle.std.proofs.Common.{sym, subst}
 use Rattle.asn_tree.specs.declared.definitions.ToplevelDefinition.TheVariants.{TypeDef}
-use Rattle.asn_tree.specs.declared.definitions.ToplevelTypeDefinition.{ToplevelTypeDefinition}
-use Rattle.asn_check.specs.KeptMeaning.{KeepsMeaning, LinkedKeepsMeaning}
+use Rattle.asn_check.specs.KeptMeaning.{LinkedKeepsMeaning}
 use Rattle.asn_meaning.specs.Laws.{RetaggedTypesMeanTheSame, TagsKeepPlainForm}
 use Rattle.asn_meaning.specs.Plain.{IsPlain}
 use Rattle.asn_names.specs.Definitions.{definitions_of}

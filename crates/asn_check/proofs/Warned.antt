@@ -15,13 +15,13 @@ use Rattle.asn_check.specs.KeptMeaning.{WarningsAreDue}
 use Rattle.asn_check.specs.Warnings.{Warning, warning, warning_for, IsDue, of_its_fault, of_several, IsBelow, Precedes, AreWarnings, of_fault, of_duplicate, fault_at, fault_on, warnings_on, warnings_of}
 use Rattle.asn_names.specs.declared.faults.Fault.{Fault}
 use Rattle.asn_names.specs.declared.faults.Fault.TheVariants.{MissingDependency, NotYetInplemented}
-use Rattle.asn_names.specs.Definitions.{Definitions, IsStanding, is_duplicate, is_named, last_named, name_of}
+use Rattle.asn_index.specs.Definitions.{Definitions, IsStanding, is_duplicate, is_named, last_named, name_of}
 use Rattle.asn_names.specs.Faults.{fault_of}
-use Rattle.asn_names.specs.Index.{place_in}
-use Rattle.asn_names.specs.declared.names.LastPlace.{LastPlace}
+use Rattle.asn_index.specs.Index.{place_in}
+use Rattle.asn_index.specs.declared.names.LastPlace.{LastPlace}
 use Rattle.asn_names.specs.Linked.{IsDefined}
-use Rattle.asn_names.proofs.LastPlaces.{Tells, tells}
-use Rattle.asn_names.proofs.Seen.{or_else}
+use Rattle.asn_index.proofs.LastPlaces.{Tells, tells}
+use Rattle.asn_index.proofs.Seen.{or_else}
 
 -- ---- lists in order
 

@@ -9,7 +9,8 @@ use Rattle.asn_meaning.specs.Definitions.{type_named}
 use Rattle.asn_meaning.specs.Plain.{IsPlain}
 use Rattle.asn_meaning.specs.Scopes.{Empty}
 use Rattle.asn_meaning.specs.ValueTrees.{ValueTree}
-use Rattle.asn_names.specs.Definitions.{Definitions, IsStanding, Module, definitions_of, name_of}
+use Rattle.asn_index.specs.Definitions.{IsStanding, name_of}
+use Rattle.asn_names.specs.Definitions.{Definitions, Module, definitions_of}
 use Rattle.asn_names.specs.Faults.{IsClean}
 use Rattle.asn_names.specs.Linked.{AreLinked}
 

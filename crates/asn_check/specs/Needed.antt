@@ -4,7 +4,7 @@ use Rattle.std.specs.List.{Contains}
 use Rattle.asn_faults.specs.declared.errors.GrammarErrorType.TheVariants as grammar
 use Rattle.asn_faults.specs.declared.errors.LinkerErrorType.TheVariants as kind
 use Rattle.asn_needs.specs.Faults.{Fault, Cycle, Argument, MissingDependency, NotYetInplemented, SyntaxMismatch, LinkerError, InvalidConstraintsError, IsFaultOn}
-use Rattle.asn_names.specs.Definitions.{Definitions, is_duplicate}
+use Rattle.asn_index.specs.Definitions.{Definitions, is_duplicate}
 use Rattle.asn_names.specs.Needed.{AreJudged}
 use Rattle.asn_check.specs.Warnings.{Warning, IsDue, refused, warning}
 

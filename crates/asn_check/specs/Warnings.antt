@@ -12,7 +12,7 @@ use Rattle.asn_faults.specs.declared.errors.LinkerErrorType.{LinkerErrorType}
 use Rattle.asn_faults.specs.declared.errors.LinkerErrorType.TheVariants as kind
 use Rattle.asn_names.specs.declared.faults.Fault.{Fault}
 use Rattle.asn_names.specs.declared.faults.Fault.TheVariants.{MissingDependency, NotYetInplemented}
-use Rattle.asn_names.specs.Definitions.{Definitions, is_duplicate, last_named}
+use Rattle.asn_index.specs.Definitions.{Definitions, is_duplicate, last_named}
 use Rattle.asn_names.specs.Faults.{fault_of}
 
 -- what a warning says, its words aside

@@ -3,7 +3,8 @@
 ghost use Rattle.asn_check.specs.KeptMeaning.{KeepsMeaning};
 ghost use Rattle.asn_check.specs.Needed.{WarnsOfFaults};
 ghost use Rattle.asn_check.specs.Warnings.{AreWarnings, said_by};
-ghost use Rattle.asn_names.specs.Definitions.{definitions_of, IsStanding};
+ghost use Rattle.asn_index.specs.Definitions.{IsStanding};
+ghost use Rattle.asn_names.specs.Definitions.{definitions_of};
 ghost use Rattle.asn_names.specs.Given.{given_definitions};
 ghost use Rattle.asn_names.specs.Linked.{AreLinked};
 ghost use Rattle.std.specs.Prelude.{◌≡◌, IfOk, map};
@@ -13,8 +14,9 @@ use crate::laws::{due_are_warned, linked_keeps_meaning, warnings_are_due};
 use crate::linked::Linked;
 use crate::warnings::warnings_on_all;
 use asn_copy_trees::{copy_module_reference, copy_toplevel_definition};
+use asn_index::Names;
 use asn_memory::{List, Mem};
-use asn_names::{Names, standing_are_linked};
+use asn_names::standing_are_linked;
 use asn_tree::{LinkerError, ModuleReference, Reading, ToplevelDefinition};
 use std::alloc::Global;
 

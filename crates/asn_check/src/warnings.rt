@@ -1,12 +1,13 @@
 //! The warnings of a linked answer.
 
 ghost use Rattle.asn_check.specs.Warnings.{fault_on, of_duplicate, of_fault, refused, said_by, warning, warning_for, warnings_of, warnings_on};
-ghost use Rattle.asn_names.specs.Definitions.{name_of};
+ghost use Rattle.asn_index.specs.Definitions.{name_of};
 ghost use Rattle.std.specs.Prelude.{◌≡◌, ◌++◌, IfOk, OnOk, map};
 
 use asn_copy_trees::copy_text;
+use asn_index::Names;
 use asn_memory::{List, Mem, Text};
-use asn_names::{Fault, Names};
+use asn_names::{Fault, fault_of};
 use asn_tree::{GrammarErrorType, LinkerError, LinkerErrorType, ToplevelDefinition};
 use std::alloc::Global;
 
@@ -74,7 +75,7 @@ fn standing_fault(alloc: Global, names: &Names<'_>, name: &str) -> Mem<Option<Fa
     ensures { IfOk result (λ fault. fault ≡ fault_on names.now.definitions.now name.now) }
 {
     match names.last_named(name) {
-        Some(definition) => names.fault(alloc, definition),
+        Some(definition) => fault_of(alloc, names, definition),
         None => Ok(None),
     }
 }

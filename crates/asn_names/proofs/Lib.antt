@@ -1,6 +1,3 @@
-pub mod Seen
-pub mod LastPlaces
-pub mod Standing
 pub mod Given
 pub mod Linked
 pub mod Occurrences

@@ -21,11 +21,12 @@ use Rattle.asn_meaning.specs.Definitions.{built_in, plain_identifier, type_ident
 use Rattle.asn_meaning.specs.Laws.{EnvironmentsChangeTags}
 use Rattle.asn_meaning.specs.Tags.{BothAlike, DifferInTags, IsRetagged, TagChange, tagged, tagging}
 use Rattle.asn_meaning.proofs.TagLayers.{type_by_level}
-use Rattle.asn_names.specs.Definitions.{Definitions, Module, definitions_of, is_named, last_named, name_of, IsStanding}
+use Rattle.asn_index.specs.Definitions.{is_named, name_of, IsStanding}
+use Rattle.asn_names.specs.Definitions.{Definitions, Module, definitions_of, last_named}
 use Rattle.asn_names.specs.Given.{IsGiven, given_definitions}
 use Rattle.asn_names.specs.Linked.{AreLinked, IsDefined, MayBeDropped}
 use Rattle.asn_names.proofs.Given.{last_given}
-use Rattle.asn_names.proofs.Seen.{last_is_named, or_else}
+use Rattle.asn_index.proofs.Seen.{or_else}
 
 -- ---- in order, each name stands once
 

@@ -5,7 +5,7 @@ use Rattle.asn_tree.specs.declared.definitions.ToplevelDefinition.{ToplevelDefin
 use Rattle.asn_names.specs.declared.faults.Fault.{Fault}
 use Rattle.asn_names.specs.declared.faults.Fault.TheVariants.{MissingDependency, NotYetInplemented}
 use Rattle.asn_meaning.specs.Definitions.{see, type_named}
-use Rattle.asn_names.specs.Definitions.{Definitions, name_of, is_duplicate}
+use Rattle.asn_index.specs.Definitions.{Definitions, name_of, is_duplicate}
 use Rattle.asn_names.specs.Occurrences.{names_of, Reaches}
 use Rattle.asn_unchanged.specs.Unchanged.{is_unchanged}
 

@@ -10,7 +10,8 @@ use Rattle.asn_needs.specs.Faults.{Fault, FaultOf}
 use Rattle.asn_needs.specs.Occurrences.{Occurrence, OccursIn}
 use Rattle.asn_needs.specs.Sites.{seen, ToDefinition}
 use Rattle.asn_names.specs.Decided.{HasHeights, IsDecidedIn, steps_of}
-use Rattle.asn_names.specs.Definitions.{Definitions, Module, definitions_of, last_named, type_of, IsStanding}
+use Rattle.asn_index.specs.Definitions.{IsStanding}
+use Rattle.asn_names.specs.Definitions.{Definitions, Module, definitions_of, last_named, type_of}
 use Rattle.asn_names.specs.Faults.{IsClean, fault_of}
 use Rattle.asn_names.specs.declared.faults.Fault.{Fault as Warned}
 use Rattle.asn_names.specs.Given.{IsGiven, given_definitions}

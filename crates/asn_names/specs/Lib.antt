@@ -1,7 +1,6 @@
 pub mod Definitions
 pub mod Occurrences
 pub mod Faults
-pub mod Index
 pub mod Given
 pub mod Linked
 pub mod Layers

@@ -4,7 +4,7 @@ ghost use Rattle.asn_names.specs.Faults.{fault_of, is_missing, lack_of};
 ghost use Rattle.std.specs.List.{list_any};
 ghost use Rattle.std.specs.Prelude.{◌≡◌, IfOk, map};
 
-use crate::names::Names;
+use asn_index::Names;
 use asn_memory::{Mem, OutOfMemory, Text};
 use asn_tree::ToplevelDefinition;
 use asn_unchanged::{is_unchanged, type_references};
@@ -19,51 +19,53 @@ pub enum Fault {
     NotYetInplemented,
 }
 
-impl<'t> Names<'t> {
-    /// The first fault that stands in a definition: it would be changed by linking, or a type reference in it has no definition of a
-    /// type.
-    ///
-    /// # Errors
-    ///
-    /// Want of memory alone.
-    pub fn fault(&self, alloc: Global, definition: &ToplevelDefinition) -> Mem<Option<Fault>>
-        ensures { IfOk result (λ fault. fault ≡ fault_of self.now.definitions.now definition.now) }
-    {
-        if is_unchanged(definition) {
-            Ok(self.lack(alloc, definition)?)
-        } else {
-            Ok(Some(Fault::NotYetInplemented))
-        }
+/// The first fault that stands in a definition: it would be changed by linking, or a type reference in it has no definition of a
+/// type.
+///
+/// # Errors
+///
+/// Want of memory alone.
+pub fn fault_of(
+    alloc: Global,
+    names: &Names<'_>,
+    definition: &ToplevelDefinition,
+) -> Mem<Option<Fault>>
+    ensures { IfOk result (λ fault. fault ≡ fault_of names.now.definitions.now definition.now) }
+{
+    if is_unchanged(definition) {
+        Ok(lack_of(alloc, names, definition)?)
+    } else {
+        Ok(Some(Fault::NotYetInplemented))
     }
+}
 
-    /// What a definition lacks that linking leaves as it is.
-    fn lack(&self, alloc: Global, definition: &ToplevelDefinition) -> Mem<Option<Fault>>
-        ensures { IfOk result (λ fault. fault ≡ lack_of self.now.definitions.now definition.now) }
-    {
-        let names = type_references(alloc, definition)?;
-        if self.lacks_one(names.as_slice()) {
-            Ok(Some(Fault::MissingDependency))
-        } else {
-            Ok(None)
-        }
+/// What a definition lacks that linking leaves as it is.
+fn lack_of(alloc: Global, names: &Names<'_>, definition: &ToplevelDefinition) -> Mem<Option<Fault>>
+    ensures { IfOk result (λ fault. fault ≡ lack_of names.now.definitions.now definition.now) }
+{
+    let references = type_references(alloc, definition)?;
+    if lacks_one(names, references.as_slice()) {
+        Ok(Some(Fault::MissingDependency))
+    } else {
+        Ok(None)
     }
+}
 
-    /// Whether one of the names stands for no type.
-    fn lacks_one(&self, names: &[&Text]) -> bool
-        ensures { result ≡ list_any (is_missing self.now.definitions.now) (map (λ n. n.now) names.now) }
-    {
-        let mut lacks = false;
-        for name in names {
-            lacks = lacks | self.is_missing(name.as_str());
-        }
-        lacks
+/// Whether one of the references stands for no type.
+fn lacks_one(names: &Names<'_>, references: &[&Text]) -> bool
+    ensures { result ≡ list_any (is_missing names.now.definitions.now) (map (λ n. n.now) references.now) }
+{
+    let mut lacks = false;
+    for reference in references {
+        lacks = lacks | is_missing(names, reference.as_str());
     }
+    lacks
+}
 
-    /// Whether a name stands for no type.
-    #[tactic(auto, using(crate::proofs::Occurrences::none_copied))]
-    fn is_missing(&self, name: &str) -> bool
-        ensures { result ≡ is_missing self.now.definitions.now name.now }
-    {
-        self.type_named(name).is_none()
-    }
+/// Whether a name stands for no type.
+#[tactic(auto, using(crate::proofs::Occurrences::none_copied))]
+fn is_missing(names: &Names<'_>, name: &str) -> bool
+    ensures { result ≡ is_missing names.now.definitions.now name.now }
+{
+    names.type_named(name).is_none()
 }

@@ -1,18 +1,15 @@
-//! Names: which definition a name stands for, what a definition reaches, what is wrong with it, and what the linked
-//! definitions of a reading are.
+//! What a definition reaches, what is wrong with it, and what the linked definitions of a reading are.
 //!
-//! It stands on the trees, on their meaning (asn_meaning) and on what definitions need (asn_needs), and rewrites nothing:
-//! names are looked up. The layers above cite the definitions in specs/.
+//! It stands on the trees, on their meaning (asn_meaning), on the index of names (asn_index), which it hands on, and on what
+//! definitions need (asn_needs), and rewrites nothing: names are looked up. The layers above cite the definitions in specs/.
 #![tactic(auto)]
 
 mod faults;
-mod index;
 mod laws;
-mod names;
 
-pub use faults::Fault;
+pub use asn_index::{LastPlace, Names};
+pub use faults::{Fault, fault_of};
 pub use laws::{
     every_tree_decided, faults_stand, last_is_given, linked_differ_in_tags, names_occur,
     standing_are_linked,
 };
-pub use names::{LastPlace, Names};

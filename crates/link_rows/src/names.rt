@@ -6,7 +6,7 @@ use crate::trees::write_listed;
 use asn_derivation::SpecError;
 use asn_memory::{List, Mem, OutOfMemory};
 use asn_modules::asn_spec;
-use asn_names::{Fault as NameFault, Names};
+use asn_names::{Fault as NameFault, Names, fault_of};
 use asn_text::{LexerError, LexerErrorType, ReportData};
 use asn_tree::{Reading, ToplevelDefinition};
 use std::alloc::Global;
@@ -141,7 +141,7 @@ fn write_standing(
     for definition in standing {
         say(out, " ")?;
         say(out, definition.name().as_str())?;
-        say(out, fault_word(names.fault(alloc, definition)?))?;
+        say(out, fault_word(fault_of(alloc, names, definition)?))?;
     }
     say(out, "\n")
 }

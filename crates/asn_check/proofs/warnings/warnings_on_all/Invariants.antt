@@ -1,6 +1,6 @@
 use Rattle.std.proofs.Common.{◌≡◌, ◌++◌, drop, map}
 use Rattle.asn_check.specs.Warnings.{said_by, warnings_of}
-use Rattle.asn_names.specs.Definitions.{name_of}
+use Rattle.asn_index.specs.Definitions.{name_of}
 use Rattle.asn_check.proofs.warnings.warnings_on_all.Given as goal
 
 abbrev pub invariant-loop-definition : goal.invariant-loop-definition
