@@ -1,16 +1,22 @@
 -- Whether values are ALL, by the outcome of each look-up and within a number of steps.
-use Rattle.std.proofs.Common.{◌≡◌, ℕ, ◌-◌, ◌<◌, zero, suc, List, Bool, true, false, if◌then◌else◌, Option, Some, None, refl, sym, ap, ◌∙◌, arith}
+use Rattle.std.proofs.Common.{◌≡◌, ℕ, ◌+◌, ◌-◌, ◌<◌, suc, List, Bool, true, false, if◌then◌else◌, Option, Some, None, refl, sym, ap, ◌∙◌}
 use Rattle.std.specs.Prelude.{is_some}
 use Rattle.asn_tree.specs.declared.definitions.ToplevelValueDefinition.{ToplevelValueDefinition}
 use Rattle.asn_tree.specs.declared.types.ASN1Type.{ASN1Type}
 use Rattle.asn_tree.specs.declared.values.ASN1Value.{ASN1Value}
-use Rattle.asn_denotes.specs.inner.Asking.{Asks, OfRead, OfNothing, asked, defined_asks, dummy_asks, head_asks, name_asks, path_asks, reference_asks}
-use Rattle.asn_denotes.specs.inner.Reading.{read_outside}
+use Rattle.asn_denotes.proofs.Stepping.{one_more}
+use Rattle.asn_denotes.specs.declared.everything.Asks.{Asks as LentAsks}
+use Rattle.asn_denotes.specs.declared.everything.Asks.TheVariants as lent
+use Rattle.asn_denotes.specs.declared.reading.Read.{Read as LentRead}
+use Rattle.asn_denotes.specs.inner.Asking.{Asks, OfRead, OfNothing, asked, defined_asks, dummy_asks, head_asks, name_asks, path_asks, reference_asks, shown_asks}
+use Rattle.asn_denotes.specs.inner.Reading.{read_outside, shown_read}
+use Rattle.asn_shapes.specs.Answers.{known}
+use Rattle.asn_shapes.specs.declared.answers.Answer.{Answer as LentAnswer}
 use Rattle.asn_meaning.specs.Answers.{Answer, No, Unknown, once}
 use Rattle.asn_meaning.specs.Definitions.{Definitions, value_named}
 use Rattle.asn_meaning.specs.Denotes.{Read, argument_of, defined_read, own_name, path_value}
 use Rattle.asn_meaning.specs.Everything.{defined_is_all, field_place, is_all_at, name_is_all, read_is_all, reference_is_all}
-use Rattle.asn_meaning.specs.Judge.{meaning, nothing_known, step}
+use Rattle.asn_meaning.specs.Judge.{meaning, step}
 use Rattle.asn_meaning.specs.Meaning.{Meaning}
 use Rattle.asn_meaning.specs.Names.{FieldType, Open, Fixed}
 use Rattle.asn_meaning.specs.Scopes.{Scope, Empty, Bound, bound_to, Place}
@@ -101,30 +107,40 @@ of_path : (M : Meaning) (f : Option (ASN1Value × FieldType)) →
 of_path M None = refl
 of_path M (Some f) = refl
 
-of_reference : (defs : Definitions) (M : Meaning) (scope : Scope) (p : Place) (parent : Option (List ℕ)) (name : List ℕ) →
+pub of_reference : (defs : Definitions) (M : Meaning) (scope : Scope) (p : Place) (parent : Option (List ℕ)) (name : List ℕ) →
     reference_is_all defs M scope p parent name ≡ asked M (reference_asks defs M scope p parent name)
 of_reference defs M scope p None name = of_name defs M scope p name (bound_to scope name)
 of_reference defs M scope p (Some o) name = of_path M (path_value defs scope o name)
 
-pub asks_known : (defs : Definitions) (M : Meaning) (scope : Scope) (p : Place) (parent : Option (List ℕ)) (name : List ℕ) (a : Answer) →
-    reference_asks defs M scope p parent name ≡ OfNothing a → reference_is_all defs M scope p parent name ≡ a
-asks_known defs M scope p parent name a e = of_reference defs M scope p parent name ∙ ap (asked M) e
-
-pub asks_read : (defs : Definitions) (M : Meaning) (scope : Scope) (p : Place) (parent : Option (List ℕ)) (name : List ℕ) (r : Read) →
-    reference_asks defs M scope p parent name ≡ OfRead r → reference_is_all defs M scope p parent name ≡ M.is_all r.scope r.value r.place
-asks_read defs M scope p parent name r e = of_reference defs M scope p parent name ∙ ap (asked M) e
-
 -- ---- steps
 
-pub is_all_at_zero : (defs : Definitions) (n : ℕ) (scope : Scope) (v : ASN1Value) (p : Place) → n ≡ 0 → (meaning defs n).is_all scope v p ≡ Unknown
-unfolding meaning nothing_known
-is_all_at_zero defs zero scope v p e = refl
-is_all_at_zero defs (suc n) scope v p e = absurd (omega arith)
-
-is_all_at_suc : (defs : Definitions) (n m : ℕ) (scope : Scope) (v : ASN1Value) (p : Place) → n ≡ suc m → (meaning defs n).is_all scope v p ≡ is_all_at defs (meaning defs m) scope p (as_written v)
+is_all_at_more : (defs : Definitions) (n k : ℕ) (scope : Scope) (v : ASN1Value) (p : Place) → n ≡ suc k → (meaning defs n).is_all scope v p ≡ is_all_at defs (meaning defs k) scope p (as_written v)
 unfolding meaning step
-is_all_at_suc defs n m scope v p e = ap (λ k. (meaning defs k).is_all scope v p) e
+is_all_at_more defs n k scope v p more = ap (λ i. (meaning defs i).is_all scope v p) more
 
-pub is_all_at_more : (defs : Definitions) (n : ℕ) (scope : Scope) (v : ASN1Value) (p : Place) → 0 < n →
-    (meaning defs n).is_all scope v p ≡ is_all_at defs (meaning defs (n - 1)) scope p (as_written v)
-is_all_at_more defs n scope v p lt = is_all_at_suc defs n (n - 1) scope v p (omega arith)
+pub is_all_in : (defs : Definitions) (n m : ℕ) (scope : Scope) (v : ASN1Value) (p : Place) → 0 < n →
+    (meaning defs (n + m)).is_all scope v p ≡ is_all_at defs (meaning defs (n - 1 + m)) scope p (as_written v)
+is_all_in defs n m scope v p lt = is_all_at_more defs (n + m) (n - 1 + m) scope v p (one_more n m lt)
+
+-- ---- names that are followed
+
+pub all_begin : (M : Meaning) (r : LentRead) (scope : Scope) (v : ASN1Value) (p : Place) → shown_read r ≡ record { scope = scope; value = v; place = p } →
+    read_is_all M (shown_read r) ≡ M.is_all scope v p
+all_begin M r scope v p e = ap (read_is_all M) e
+
+all_next : (defs : Definitions) (n m : ℕ) (r : Read) (asks : LentAsks) → 0 < n →
+    asked (meaning defs (n - 1 + m)) (shown_asks asks) ≡ is_all_at defs (meaning defs (n - 1 + m)) r.scope r.place (as_written r.value) →
+    read_is_all (meaning defs (n + m)) r ≡ asked (meaning defs (n - 1 + m)) (shown_asks asks)
+all_next defs n m r asks lt e = is_all_in defs n m r.scope r.value r.place lt ∙ sym e
+
+pub all_known : (defs : Definitions) (n m : ℕ) (r : Read) (asks : LentAsks) (answer : LentAnswer) → 0 < n →
+    asked (meaning defs (n - 1 + m)) (shown_asks asks) ≡ is_all_at defs (meaning defs (n - 1 + m)) r.scope r.place (as_written r.value) → asks ≡ lent.Known answer →
+    read_is_all (meaning defs (n + m)) r ≡ known answer
+all_known defs n m r asks answer lt e is =
+    all_next defs n m r asks lt e ∙ ap (λ a. asked (meaning defs (n - 1 + m)) (shown_asks a)) is
+
+pub all_further : (defs : Definitions) (n m : ℕ) (r : Read) (asks : LentAsks) (after : LentRead) → 0 < n →
+    asked (meaning defs (n - 1 + m)) (shown_asks asks) ≡ is_all_at defs (meaning defs (n - 1 + m)) r.scope r.place (as_written r.value) → asks ≡ lent.Read after →
+    read_is_all (meaning defs (n + m)) r ≡ read_is_all (meaning defs (n - 1 + m)) (shown_read after)
+all_further defs n m r asks after lt e is =
+    all_next defs n m r asks lt e ∙ ap (λ a. asked (meaning defs (n - 1 + m)) (shown_asks a)) is

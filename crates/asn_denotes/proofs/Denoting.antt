@@ -1,5 +1,5 @@
 -- What values denote part by part, and within a number of steps.
-use Rattle.std.proofs.Common.{◌≡◌, ℕ, ◌+◌, ◌-◌, ◌<◌, ◌≤◌, zero, suc, List, [], ◌∷◌, drop, length, get_or, true, false, if◌then◌else◌, Option, Some, None, refl, sym, ap, ◌∙◌, arith}
+use Rattle.std.proofs.Common.{◌≡◌, ℕ, ◌+◌, ◌-◌, ◌<◌, ◌≤◌, suc, List, [], ◌∷◌, drop, length, get_or, true, false, if◌then◌else◌, Option, Some, None, refl, sym, ap, ◌∙◌}
 use Rattle.std.specs.Option.{option_map}
 use Rattle.std.proofs.lemmas.List.{drop_more, drop_all}
 use Rattle.asn_tree.specs.declared.types.ChoiceOption.{ChoiceOption}
@@ -13,11 +13,12 @@ use Rattle.asn_denotes.specs.inner.Gathering.{elements_of, struct_of, with_eleme
 use Rattle.asn_denotes.specs.inner.Structs.{names_of}
 use Rattle.asn_denotes.specs.inner.Values.{alternative_written, made_elements, made_parts}
 use Rattle.asn_denotes.proofs.Joining.{ahead, in_front, list_made, parts_begin as any_parts_begin, parts_done as any_parts_done, parts_next as any_parts_next, struct_made, trees_begin as any_trees_begin, trees_done as any_trees_done, trees_next as any_trees_next}
+use Rattle.asn_denotes.proofs.Stepping.{one_more}
 use Rattle.asn_meaning.specs.Answers.{Denotation, Denoted, Nothing, Unsure, if_any, made_of, once, together}
 use Rattle.asn_meaning.specs.Braces.{elements_written, fields_written}
 use Rattle.asn_meaning.specs.Definitions.{Definitions}
 use Rattle.asn_meaning.specs.Denotes.{choice_row, denoted_under, denotes_at, fields_denoted, is_open, list_row, may_stand, member_denoted, parts_row, row_or_parts, struct_denoted, struct_row, trees_denoted, value_denoted, written_denoted}
-use Rattle.asn_meaning.specs.Judge.{meaning, nothing_known, step}
+use Rattle.asn_meaning.specs.Judge.{meaning, step}
 use Rattle.asn_meaning.specs.Kinds.{kind_of}
 use Rattle.asn_meaning.specs.Layers.{OptionLayer}
 use Rattle.asn_meaning.specs.Meaning.{Meaning, Member}
@@ -31,17 +32,13 @@ use Rattle.asn_meaning.specs.Written.{NamedValues, Written, AllWritten, NullWrit
 
 -- ---- steps
 
-pub denotes_at_zero : (defs : Definitions) (n : ℕ) (scope : Scope) (v : ASN1Value) (p : Place) → n ≡ 0 → (meaning defs n).denotes scope v p ≡ Unsure
-unfolding meaning nothing_known
-denotes_at_zero defs zero scope v p e = refl
-denotes_at_zero defs (suc n) scope v p e = absurd (omega arith)
-
-denotes_at_suc : (defs : Definitions) (n m : ℕ) (scope : Scope) (v : ASN1Value) (p : Place) → n ≡ suc m → (meaning defs n).denotes scope v p ≡ denotes_at defs (meaning defs m) scope v p
+denotes_at_more : (defs : Definitions) (n k : ℕ) (scope : Scope) (v : ASN1Value) (p : Place) → n ≡ suc k → (meaning defs n).denotes scope v p ≡ denotes_at defs (meaning defs k) scope v p
 unfolding meaning step
-denotes_at_suc defs n m scope v p e = ap (λ k. (meaning defs k).denotes scope v p) e
+denotes_at_more defs n k scope v p more = ap (λ i. (meaning defs i).denotes scope v p) more
 
-pub denotes_at_more : (defs : Definitions) (n : ℕ) (scope : Scope) (v : ASN1Value) (p : Place) → 0 < n → (meaning defs n).denotes scope v p ≡ denotes_at defs (meaning defs (n - 1)) scope v p
-denotes_at_more defs n scope v p lt = denotes_at_suc defs n (n - 1) scope v p (omega arith)
+pub denotes_in : (defs : Definitions) (n m : ℕ) (scope : Scope) (v : ASN1Value) (p : Place) → 0 < n →
+    (meaning defs (n + m)).denotes scope v p ≡ denotes_at defs (meaning defs (n - 1 + m)) scope v p
+denotes_in defs n m scope v p lt = denotes_at_more defs (n + m) (n - 1 + m) scope v p (one_more n m lt)
 
 -- ---- heads
 

@@ -1,5 +1,6 @@
 pub mod Asking
 pub mod Bracing
+pub mod Chaining
 pub mod Denoting
 pub mod Fielding
 pub mod Joining
@@ -10,3 +11,4 @@ pub mod Paths
 pub mod Rowing
 pub mod Spelling
 pub mod Standing
+pub mod Stepping

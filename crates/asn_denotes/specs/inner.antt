@@ -1,5 +1,6 @@
 -- What private contracts alone cite.
 pub mod Asking
+pub mod Following
 pub mod Gathering
 pub mod Reading
 pub mod Rows

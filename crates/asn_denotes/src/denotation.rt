@@ -16,7 +16,7 @@ pub enum Denotation<T> {
     Denoted(T),
     /// Nothing is denoted.
     Nothing,
-    /// The steps do not reach, or a name leads nowhere.
+    /// A name leads nowhere.
     Unsure,
 }
 

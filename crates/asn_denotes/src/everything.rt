@@ -5,23 +5,24 @@ ghost use Rattle.asn_heads.specs.Kinds.{shown_type};
 ghost use Rattle.asn_heads.specs.Places.{shown_place};
 ghost use Rattle.asn_heads.specs.Scopes.{shown, shown_bound};
 ghost use Rattle.asn_heads.specs.Values.{shown_value};
-ghost use Rattle.asn_heads.specs.Written.{shown_written};
-ghost use Rattle.asn_denotes.specs.inner.Asking.{defined_asks, dummy_asks, head_asks, name_asks, path_asks, reference_asks, shown_asks};
+ghost use Rattle.asn_denotes.specs.inner.Asking.{asked, defined_asks, dummy_asks, head_asks, name_asks, path_asks, reference_asks, shown_asks};
+ghost use Rattle.asn_denotes.specs.inner.Reading.{shown_read};
 ghost use Rattle.asn_shapes.specs.Answers.{known};
-ghost use Rattle.asn_meaning.specs.Everything.{field_place, is_all_at, reference_is_all};
+ghost use Rattle.asn_meaning.specs.Everything.{field_place, is_all_at};
 ghost use Rattle.asn_meaning.specs.Judge.{meaning};
 ghost use Rattle.asn_meaning.specs.Scopes.{bound_to};
+ghost use Rattle.asn_meaning.specs.Written.{as_written};
 ghost use Rattle.std.specs.Option.{option_copied};
-ghost use Rattle.std.specs.Prelude.{◌≡◌, IfOk};
+ghost use Rattle.std.specs.Prelude.{◌≡◌, IfOk, ℕ, ◌+◌};
 
 use crate::own::own_name;
-use crate::reading::{Read, argument_of, defined_read, path_value, read_outside};
+use crate::reading::{Read, argument_of, defined_read, path_value, read_at, read_outside};
 use asn_heads::{
-    Bound, FieldType, Place, Scope, TypeForm, ValueForm, Written, head, value_named, value_written,
+    Bound, FieldType, Place, Scope, TypeForm, ValueForm, Written, head, value_written,
 };
-use asn_memory::{Mem, Text};
+use asn_index::Names;
+use asn_memory::{Mem, OutOfMemory, Text};
 use asn_shapes::Answer;
-use asn_tree::ToplevelDefinition;
 use std::alloc::Global;
 
 /// What is asked of a name, whether it stands for ALL.
@@ -59,12 +60,12 @@ fn dummy_asks<'s, 'a>(alloc: Global, scope: &Scope<'a>, bound: Bound<'s, 'a>) ->
 /// What is asked of a name under a head: nothing more where it is an item or named number, else whether a value definition
 /// stands for ALL (X.680 14.1).
 #[tactic(auto, using(crate::proofs::Asking::own_asks, crate::proofs::Asking::defined_lost, crate::proofs::Asking::defined_found))]
-fn defined_asks<'a>(definitions: &'a [ToplevelDefinition], head: &Place<'a>, name: &str) -> Asks<'a>
-    ensures { shown_asks result ≡ defined_asks definitions.now name.now (shown_place head.now) }
+fn defined_asks<'a>(names: &Names<'a>, head: &Place<'a>, name: &str) -> Asks<'a>
+    ensures { shown_asks result ≡ defined_asks names.now.definitions.now name.now (shown_place head.now) }
 {
     match own_name(head, name) {
         Some(_) => Asks::Known(Answer::No),
-        None => match value_named(definitions, name) {
+        None => match names.value_named(name) {
             None => Asks::Known(Answer::No),
             Some(definition) => Asks::Read(defined_read(definition)),
         },
@@ -77,16 +78,16 @@ fn defined_asks<'a>(definitions: &'a [ToplevelDefinition], head: &Place<'a>, nam
 #[tactic(auto, using(crate::proofs::Asking::headless, crate::proofs::Asking::headed))]
 fn head_asks<'a>(
     alloc: Global,
-    definitions: &'a [ToplevelDefinition],
+    names: &Names<'a>,
     steps: usize,
     place: &Place<'a>,
     name: &str,
 ) -> Mem<Asks<'a>>
-    ensures { IfOk result (λ asks. shown_asks asks ≡ head_asks definitions.now (meaning definitions.now steps) (shown_place place.now) name.now) }
+    ensures { IfOk result (λ asks. (m : ℕ) → shown_asks asks ≡ head_asks names.now.definitions.now (meaning names.now.definitions.now (steps + m)) (shown_place place.now) name.now) }
 {
-    match head(alloc, definitions, steps, place)? {
+    match head(alloc, names, steps, place)? {
         None => Ok(Asks::Known(Answer::Unknown)),
-        Some(head) => Ok(defined_asks(definitions, &head, name)),
+        Some(head) => Ok(defined_asks(names, &head, name)),
     }
 }
 
@@ -96,13 +97,13 @@ fn head_asks<'a>(
 #[tactic(auto, using(crate::proofs::Asking::name_bound, crate::proofs::Asking::name_free))]
 fn name_asks<'a>(
     alloc: Global,
-    definitions: &'a [ToplevelDefinition],
+    names: &Names<'a>,
     steps: usize,
     scope: &Scope<'a>,
     place: &Place<'a>,
     name: &str,
 ) -> Mem<Asks<'a>>
-    ensures { IfOk result (λ asks. shown_asks asks ≡ name_asks definitions.now (meaning definitions.now steps) (shown scope.now) (shown_place place.now) name.now (bound_to (shown scope.now) name.now)) }
+    ensures { IfOk result (λ asks. (m : ℕ) → shown_asks asks ≡ name_asks names.now.definitions.now (meaning names.now.definitions.now (steps + m)) (shown scope.now) (shown_place place.now) name.now (bound_to (shown scope.now) name.now)) }
 {
     match scope.bound_to(name) {
         Some(bound) => {
@@ -110,7 +111,7 @@ fn name_asks<'a>(
             Ok(asks)
         }
         None => {
-            let asks = head_asks(alloc, definitions, steps, place, name)?;
+            let asks = head_asks(alloc, names, steps, place, name)?;
             Ok(asks)
         }
     }
@@ -122,14 +123,14 @@ fn name_asks<'a>(
 #[tactic(auto, using(crate::proofs::Asking::path_lost, crate::proofs::Asking::path_found))]
 fn path_asks<'a>(
     alloc: Global,
-    definitions: &'a [ToplevelDefinition],
+    names: &Names<'a>,
     scope: &Scope<'a>,
     object: &str,
     name: &str,
 ) -> Mem<Asks<'a>>
-    ensures { IfOk result (λ asks. shown_asks asks ≡ path_asks definitions.now (shown scope.now) object.now name.now) }
+    ensures { IfOk result (λ asks. shown_asks asks ≡ path_asks names.now.definitions.now (shown scope.now) object.now name.now) }
 {
-    match path_value(alloc, definitions, scope, object, name)? {
+    match path_value(alloc, names, scope, object, name)? {
         None => Ok(Asks::Known(Answer::No)),
         Some(path) => {
             let read = read_outside(path.value, field_type(path.ty));
@@ -143,119 +144,85 @@ fn path_asks<'a>(
 /// Err: want of memory.
 fn reference_asks<'a>(
     alloc: Global,
-    definitions: &'a [ToplevelDefinition],
+    names: &Names<'a>,
     steps: usize,
     scope: &Scope<'a>,
     place: &Place<'a>,
     parent: Option<&'a Text>,
     name: &'a Text,
 ) -> Mem<Asks<'a>>
-    ensures { IfOk result (λ asks. shown_asks asks ≡ reference_asks definitions.now (meaning definitions.now steps) (shown scope.now) (shown_place place.now) (option_copied parent.entry) name.now) }
+    ensures { IfOk result (λ asks. (m : ℕ) → shown_asks asks ≡ reference_asks names.now.definitions.now (meaning names.now.definitions.now (steps + m)) (shown scope.now) (shown_place place.now) (option_copied parent.entry) name.now) }
 {
     match parent {
         None => {
-            let asks = name_asks(alloc, definitions, steps, scope, place, name.as_str())?;
+            let asks = name_asks(alloc, names, steps, scope, place, name.as_str())?;
             Ok(asks)
         }
         Some(object) => {
-            let asks = path_asks(alloc, definitions, scope, object.as_str(), name.as_str())?;
+            let asks = path_asks(alloc, names, scope, object.as_str(), name.as_str())?;
             Ok(asks)
         }
     }
 }
 
-/// Whether a value, read in its own scope, is ALL under a type within a number of steps, or a dummy, a name or a path that
-/// stands for it (X.680 51.2).
+/// What is asked of a value: of ALL nothing more, nor of a value that can't stand for it; of a name, alone or behind the name of
+/// an object, and of a value inside a linked form, whether another value is ALL.
 ///
-/// Unknown: the steps do not reach. Err: want of memory.
-#[cycle(asking)]
-#[tactic(auto, using(crate::proofs::Asking::is_all_at_zero, crate::proofs::Asking::is_all_at_more))]
+/// Err: want of memory.
+#[tactic(auto, using(crate::proofs::Asking::of_reference))]
+fn value_asks<'a>(alloc: Global, names: &Names<'a>, steps: usize, read: &Read<'a>) -> Mem<Asks<'a>>
+    ensures { IfOk result (λ asks. (m : ℕ) → asked (meaning names.now.definitions.now (steps + m)) (shown_asks asks) ≡ is_all_at names.now.definitions.now (meaning names.now.definitions.now (steps + m)) (shown_read read.now).scope (shown_read read.now).place (as_written (shown_read read.now).value)) }
+{
+    let scope = &read.scope;
+    let place = &read.place;
+    match value_written(read.value) {
+        Written::All => Ok(Asks::Known(Answer::Yes)),
+        Written::Name { parent, identifier } => {
+            let asks = reference_asks(alloc, names, steps, scope, place, parent, identifier)?;
+            Ok(asks)
+        }
+        Written::Nested(value) => {
+            let read = read_at(alloc, scope, ValueForm::Written(value), place)?;
+            Ok(Asks::Read(read))
+        }
+        Written::Null => Ok(Asks::Known(Answer::No)),
+        Written::Truth(_) => Ok(Asks::Known(Answer::No)),
+        Written::Number(_) => Ok(Asks::Known(Answer::No)),
+        Written::Real(_) => Ok(Asks::Known(Answer::No)),
+        Written::Text(_) => Ok(Asks::Known(Answer::No)),
+        Written::Bits(_) => Ok(Asks::Known(Answer::No)),
+        Written::BitNames(_) => Ok(Asks::Known(Answer::No)),
+        Written::Octets(_) => Ok(Asks::Known(Answer::No)),
+        Written::Arcs(_) => Ok(Asks::Known(Answer::No)),
+        Written::Item(_) => Ok(Asks::Known(Answer::No)),
+        Written::Braces(_) => Ok(Asks::Known(Answer::No)),
+        Written::Fields(_) => Ok(Asks::Known(Answer::No)),
+        Written::Elements(_) => Ok(Asks::Known(Answer::No)),
+        Written::Alternative { .. } => Ok(Asks::Known(Answer::No)),
+    }
+}
+
+/// Whether a value, read in its own scope, is ALL under a type within a number of steps, and within more, or a dummy, a name
+/// or a path that stands for it (X.680 51.2). Each turn of the loop follows one of these.
+///
+/// Unknown: a name leads nowhere, however many steps there are. Err: want of memory, also where the steps are used up.
+#[tactic(auto, using(crate::proofs::Asking::all_begin))]
 pub fn is_all<'a>(
     alloc: Global,
-    definitions: &'a [ToplevelDefinition],
+    names: &Names<'a>,
     steps: usize,
     scope: &Scope<'a>,
     value: ValueForm<'a>,
     place: &Place<'a>,
 ) -> Mem<Answer>
-    ensures { IfOk result (λ answer. known answer ≡ (meaning definitions.now steps).is_all (shown scope.now) (shown_value value.entry) (shown_place place.now)) }
+    ensures { IfOk result (λ answer. (m : ℕ) → known answer ≡ (meaning names.now.definitions.now (steps + m)).is_all (shown scope.now) (shown_value value.entry) (shown_place place.now)) }
 {
-    if steps == 0 {
-        return Ok(Answer::Unknown);
-    }
-    let written = value_written(value);
-    let answer = is_all_at(alloc, definitions, steps - 1, scope, place, written)?;
-    Ok(answer)
-}
-
-/// Whether a value is ALL or stands for it, by how it is written.
-#[cycle(asking)]
-fn is_all_at<'a>(
-    alloc: Global,
-    definitions: &'a [ToplevelDefinition],
-    steps: usize,
-    scope: &Scope<'a>,
-    place: &Place<'a>,
-    written: Written<'a>,
-) -> Mem<Answer>
-    ensures { IfOk result (λ answer. known answer ≡ is_all_at definitions.now (meaning definitions.now steps) (shown scope.now) (shown_place place.now) (shown_written written.entry)) }
-{
-    match written {
-        Written::All => Ok(Answer::Yes),
-        Written::Name { parent, identifier } => {
-            let answer = reference_is_all(
-                alloc,
-                definitions,
-                steps,
-                scope,
-                place,
-                parent,
-                identifier,
-            )?;
-            Ok(answer)
-        }
-        Written::Nested(value) => {
-            let value = ValueForm::Written(value);
-            let answer = is_all(alloc, definitions, steps, scope, value, place)?;
-            Ok(answer)
-        }
-        Written::Null => Ok(Answer::No),
-        Written::Truth(_) => Ok(Answer::No),
-        Written::Number(_) => Ok(Answer::No),
-        Written::Real(_) => Ok(Answer::No),
-        Written::Text(_) => Ok(Answer::No),
-        Written::Bits(_) => Ok(Answer::No),
-        Written::BitNames(_) => Ok(Answer::No),
-        Written::Octets(_) => Ok(Answer::No),
-        Written::Arcs(_) => Ok(Answer::No),
-        Written::Item(_) => Ok(Answer::No),
-        Written::Braces(_) => Ok(Answer::No),
-        Written::Fields(_) => Ok(Answer::No),
-        Written::Elements(_) => Ok(Answer::No),
-        Written::Alternative { .. } => Ok(Answer::No),
-    }
-}
-
-/// Whether a name stands for ALL, alone or behind the name of an object.
-#[cycle(asking)]
-#[tactic(auto, using(crate::proofs::Asking::asks_known, crate::proofs::Asking::asks_read))]
-fn reference_is_all<'a>(
-    alloc: Global,
-    definitions: &'a [ToplevelDefinition],
-    steps: usize,
-    scope: &Scope<'a>,
-    place: &Place<'a>,
-    parent: Option<&'a Text>,
-    name: &'a Text,
-) -> Mem<Answer>
-    ensures { IfOk result (λ answer. known answer ≡ reference_is_all definitions.now (meaning definitions.now steps) (shown scope.now) (shown_place place.now) (option_copied parent.entry) name.now) }
-{
-    match reference_asks(alloc, definitions, steps, scope, place, parent, name)? {
-        Asks::Known(answer) => Ok(answer),
-        Asks::Read(read) => {
-            let place = &read.place;
-            let answer = is_all(alloc, definitions, steps, &read.scope, read.value, place)?;
-            Ok(answer)
+    let mut read = read_at(alloc, scope, value, place)?;
+    for left in (0..steps).rev() {
+        match value_asks(alloc, names, left, &read)? {
+            Asks::Known(answer) => return Ok(answer),
+            Asks::Read(next) => read = next,
         }
     }
+    Err(OutOfMemory)
 }

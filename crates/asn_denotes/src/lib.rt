@@ -1,15 +1,20 @@
 //! A plain slow program that computes what values denote by the definitions of meaning: the trees of values by their own
 //! notation, names, dummies, paths and values with parts; and whether a value is ALL or stands for it.
 //!
-//! What meaning knows within a number of steps, a call computes by `steps`, which counts down. It stands on asn_heads, which
-//! tells where names lead and how a value is written, and on asn_shapes, whose trees it gives. Each call is proved to give
-//! what its definition says, so that tests ask the definitions themselves.
+//! What meaning knows within a number of steps, a call computes by `steps`, which counts down. Where these are used up, it fails
+//! for want of memory, so that each answer is the one of all further steps, and unsure means for good that a name leads
+//! nowhere. A call fails for nothing else.
+//!
+//! It stands on asn_index, which tells what a name stands for, on asn_heads, which tells where names lead and how a value is
+//! written, and on asn_shapes, whose trees it gives. Each call is proved to give what its definition says, so that tests ask
+//! the definitions themselves.
 #![tactic(auto)]
 
 mod bits;
 mod braces;
 mod denotation;
 mod everything;
+mod following;
 mod gathering;
 mod making;
 mod own;

@@ -2,6 +2,7 @@
 
 ghost use Rattle.asn_heads.specs.Kinds.{shown_type};
 ghost use Rattle.asn_heads.specs.Objects.{shown_given};
+ghost use Rattle.asn_heads.specs.Places.{shown_place};
 ghost use Rattle.asn_heads.specs.Scopes.{shown, shown_argument, shown_bound};
 ghost use Rattle.asn_heads.specs.Values.{shown_value};
 ghost use Rattle.asn_denotes.specs.inner.Reading.{given_value, read_outside, shown_path, shown_read};
@@ -13,12 +14,11 @@ ghost use Rattle.std.specs.Prelude.{◌≡◌, IfOk};
 
 use asn_heads::{
     Argument, Bound, FieldType, GivenField, Gives, Place, Scope, TypeForm, ValueForm, object_field,
-    object_field_type, object_named,
+    object_field_type,
 };
+use asn_index::Names;
 use asn_memory::Mem;
-use asn_tree::{
-    ASN1Type, Parameter, ParameterGovernor, ToplevelDefinition, ToplevelValueDefinition,
-};
+use asn_tree::{ASN1Type, Parameter, ParameterGovernor, ToplevelValueDefinition};
 use std::alloc::Global;
 
 /// A value, the scope that it is read in, and its type.
@@ -48,6 +48,26 @@ pub fn read_outside<'a>(value: ValueForm<'a>, ty: TypeForm<'a>) -> Read<'a>
             ty,
         },
     }
+}
+
+/// A value under a type, each read in its scope.
+///
+/// Err: want of memory.
+pub fn read_at<'a>(
+    alloc: Global,
+    scope: &Scope<'a>,
+    value: ValueForm<'a>,
+    place: &Place<'a>,
+) -> Mem<Read<'a>>
+    ensures { IfOk result (λ read. shown_read read ≡ record { scope = shown scope.now; value = shown_value value.entry; place = shown_place place.now }) }
+{
+    let scope = scope.copy(alloc)?;
+    let place = place.copy(alloc)?;
+    Ok(Read {
+        scope,
+        value,
+        place,
+    })
 }
 
 /// A value that is an argument, read in the argument's scope under the governor, which is read in `scope` (X.683 8.3). None
@@ -128,14 +148,14 @@ fn value_of_field<'a>(given: GivenField<'a>) -> Option<ValueForm<'a>>
 #[tactic(auto, using(crate::proofs::Paths::given_none, crate::proofs::Paths::given_some))]
 fn given_value<'a>(
     alloc: Global,
-    definitions: &'a [ToplevelDefinition],
+    names: &Names<'a>,
     scope: &Scope<'a>,
     object: &str,
     name: &str,
 ) -> Mem<Option<ValueForm<'a>>>
-    ensures { IfOk result (λ value. option_map shown_value value ≡ given_value definitions.now (shown scope.now) object.now name.now) }
+    ensures { IfOk result (λ value. option_map shown_value value ≡ given_value names.now.definitions.now (shown scope.now) object.now name.now) }
 {
-    match object_field(alloc, definitions, scope, object, name)? {
+    match object_field(alloc, names, scope, object, name)? {
         None => Ok(None),
         Some(given) => Ok(value_of_field(given)),
     }
@@ -148,18 +168,18 @@ fn given_value<'a>(
 #[tactic(auto, using(crate::proofs::Paths::path_valueless, crate::proofs::Paths::path_objectless, crate::proofs::Paths::path_typeless, crate::proofs::Paths::path_typed))]
 pub fn path_value<'a>(
     alloc: Global,
-    definitions: &'a [ToplevelDefinition],
+    names: &Names<'a>,
     scope: &Scope<'a>,
     object: &str,
     name: &str,
 ) -> Mem<Option<PathValue<'a>>>
-    ensures { IfOk result (λ path. option_map shown_path path ≡ path_value definitions.now (shown scope.now) object.now name.now) }
+    ensures { IfOk result (λ path. option_map shown_path path ≡ path_value names.now.definitions.now (shown scope.now) object.now name.now) }
 {
-    match given_value(alloc, definitions, scope, object, name)? {
+    match given_value(alloc, names, scope, object, name)? {
         None => Ok(None),
-        Some(value) => match object_named(definitions, object) {
+        Some(value) => match names.object_named(object) {
             None => Ok(None),
-            Some(object) => match object_field_type(alloc, definitions, object, name)? {
+            Some(object) => match object_field_type(alloc, names, object, name)? {
                 None => Ok(None),
                 Some(ty) => Ok(Some(PathValue { value, ty })),
             },

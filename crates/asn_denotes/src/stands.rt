@@ -10,10 +10,10 @@ ghost use Rattle.std.specs.Prelude.{◌≡◌, IfOk};
 
 use crate::own::own_name;
 use crate::reading::{PathValue, Read, argument_of, defined_read, path_value, read_outside};
-use asn_heads::{Bound, FieldType, Place, Scope, value_named};
+use asn_heads::{Bound, FieldType, Place, Scope};
+use asn_index::Names;
 use asn_memory::{Mem, Text};
 use asn_shapes::Tree;
-use asn_tree::ToplevelDefinition;
 use std::alloc::Global;
 
 /// What a name stands for.
@@ -44,10 +44,10 @@ fn dummy_stands<'s, 'a>(alloc: Global, scope: &Scope<'a>, bound: Bound<'s, 'a>) 
 
 /// What a value definition's name stands for.
 #[tactic(auto, using(crate::proofs::Standing::defined_lost, crate::proofs::Standing::defined_found))]
-fn defined_stands<'a>(definitions: &'a [ToplevelDefinition], name: &str) -> Stands<'a>
-    ensures { shown_stands result ≡ defined_stands definitions.now name.now }
+fn defined_stands<'a>(names: &Names<'a>, name: &str) -> Stands<'a>
+    ensures { shown_stands result ≡ defined_stands names.now.definitions.now name.now }
 {
-    match value_named(definitions, name) {
+    match names.value_named(name) {
         None => Stands::Nothing,
         Some(definition) => Stands::Read(defined_read(definition)),
     }
@@ -55,16 +55,12 @@ fn defined_stands<'a>(definitions: &'a [ToplevelDefinition], name: &str) -> Stan
 
 /// What a name that is no dummy stands for: an item or named number of the head, else a value definition (X.680 14.1).
 #[tactic(auto, using(crate::proofs::Standing::own_lost, crate::proofs::Standing::own_found))]
-fn own_or_defined<'a>(
-    definitions: &'a [ToplevelDefinition],
-    head: &Place<'a>,
-    name: &str,
-) -> Stands<'a>
-    ensures { shown_stands result ≡ own_or_defined definitions.now (shown_place head.now) name.now }
+fn own_or_defined<'a>(names: &Names<'a>, head: &Place<'a>, name: &str) -> Stands<'a>
+    ensures { shown_stands result ≡ own_or_defined names.now.definitions.now (shown_place head.now) name.now }
 {
     match own_name(head, name) {
         Some(tree) => Stands::Tree(tree),
-        None => defined_stands(definitions, name),
+        None => defined_stands(names, name),
     }
 }
 
@@ -74,19 +70,19 @@ fn own_or_defined<'a>(
 #[tactic(auto, using(crate::proofs::Standing::name_bound, crate::proofs::Standing::name_free))]
 fn name_stands<'a>(
     alloc: Global,
-    definitions: &'a [ToplevelDefinition],
+    names: &Names<'a>,
     scope: &Scope<'a>,
     head: &Place<'a>,
     name: &str,
 ) -> Mem<Stands<'a>>
-    ensures { IfOk result (λ stands. shown_stands stands ≡ name_stands definitions.now (shown scope.now) (shown_place head.now) name.now (bound_to (shown scope.now) name.now)) }
+    ensures { IfOk result (λ stands. shown_stands stands ≡ name_stands names.now.definitions.now (shown scope.now) (shown_place head.now) name.now (bound_to (shown scope.now) name.now)) }
 {
     match scope.bound_to(name) {
         Some(bound) => {
             let stands = dummy_stands(alloc, scope, bound)?;
             Ok(stands)
         }
-        None => Ok(own_or_defined(definitions, head, name)),
+        None => Ok(own_or_defined(names, head, name)),
     }
 }
 
@@ -106,14 +102,14 @@ fn field_stands<'a>(path: PathValue<'a>) -> Stands<'a>
 #[tactic(auto, using(crate::proofs::Standing::path_lost, crate::proofs::Standing::path_found))]
 fn path_stands<'a>(
     alloc: Global,
-    definitions: &'a [ToplevelDefinition],
+    names: &Names<'a>,
     scope: &Scope<'a>,
     object: &str,
     name: &str,
 ) -> Mem<Stands<'a>>
-    ensures { IfOk result (λ stands. shown_stands stands ≡ path_stands definitions.now (shown scope.now) object.now name.now) }
+    ensures { IfOk result (λ stands. shown_stands stands ≡ path_stands names.now.definitions.now (shown scope.now) object.now name.now) }
 {
-    match path_value(alloc, definitions, scope, object, name)? {
+    match path_value(alloc, names, scope, object, name)? {
         None => Ok(Stands::Nothing),
         Some(path) => Ok(field_stands(path)),
     }
@@ -124,21 +120,21 @@ fn path_stands<'a>(
 /// Err: want of memory.
 pub fn reference_stands<'a>(
     alloc: Global,
-    definitions: &'a [ToplevelDefinition],
+    names: &Names<'a>,
     scope: &Scope<'a>,
     head: &Place<'a>,
     parent: Option<&'a Text>,
     name: &'a Text,
 ) -> Mem<Stands<'a>>
-    ensures { IfOk result (λ stands. shown_stands stands ≡ reference_stands definitions.now (shown scope.now) (shown_place head.now) (option_copied parent.entry) name.now) }
+    ensures { IfOk result (λ stands. shown_stands stands ≡ reference_stands names.now.definitions.now (shown scope.now) (shown_place head.now) (option_copied parent.entry) name.now) }
 {
     match parent {
         None => {
-            let stands = name_stands(alloc, definitions, scope, head, name.as_str())?;
+            let stands = name_stands(alloc, names, scope, head, name.as_str())?;
             Ok(stands)
         }
         Some(object) => {
-            let stands = path_stands(alloc, definitions, scope, object.as_str(), name.as_str())?;
+            let stands = path_stands(alloc, names, scope, object.as_str(), name.as_str())?;
             Ok(stands)
         }
     }

@@ -9,29 +9,33 @@ ghost use Rattle.asn_heads.specs.Written.{shown_written};
 ghost use Rattle.asn_denotes.specs.Braces.{shown_named_values, shown_values};
 ghost use Rattle.asn_denotes.specs.Denotation.{shown_denotation};
 ghost use Rattle.asn_denotes.specs.inner.Gathering.{shown_elements, shown_parts};
+ghost use Rattle.asn_denotes.specs.inner.Following.{next_denoted};
+ghost use Rattle.asn_denotes.specs.inner.Reading.{shown_read};
 ghost use Rattle.asn_denotes.specs.inner.Values.{alternative_written, made_elements, made_parts, shown_chosen};
-ghost use Rattle.asn_meaning.specs.Denotes.{choice_row, denoted_under, denotes_at, fields_denoted, list_row, member_denoted, parts_row, reference_denoted, shaped, struct_denoted, struct_row, trees_denoted, value_denoted, written_denoted};
+ghost use Rattle.asn_meaning.specs.Denotes.{choice_row, denoted_under, denotes_at, fields_denoted, list_row, member_denoted, parts_row, struct_denoted, struct_row, trees_denoted, value_denoted, written_denoted};
 ghost use Rattle.asn_meaning.specs.Judge.{meaning};
 ghost use Rattle.asn_meaning.specs.Members.{member_named};
 ghost use Rattle.asn_shapes.specs.Members.{shown_members};
 ghost use Rattle.asn_tree.specs.declared.types.SequenceOrSet.{out-SequenceOrSet};
-ghost use Rattle.std.specs.Option.{option_copied, option_map};
-ghost use Rattle.std.specs.Prelude.{◌≡◌, IfOk};
+ghost use Rattle.std.specs.Option.{option_map};
+ghost use Rattle.std.specs.Prelude.{◌≡◌, IfOk, ℕ, ◌+◌};
 
 use crate::braces::{NamedValue, elements_written, fields_written};
-use crate::denotation::{Denotation, if_any, provided};
+use crate::denotation::{Denotation, if_any};
+use crate::following::{Next, named_next, shaped_by, with_wanted};
 use crate::gathering::{alternative_of, elements_of, struct_of, with_element, with_part};
 use crate::making::opaque_tree;
 use crate::own::{is_open, item_in};
+use crate::reading::{Read, read_at};
 use crate::rows::row;
-use crate::stands::{Stands, reference_stands};
 use crate::structs::may_stand;
 use asn_heads::{
     Kind, Place, Scope, TypeForm, ValueForm, Written, head, kind_of, option_named, value_written,
 };
-use asn_memory::{List, Mem, Text};
-use asn_shapes::{Field, Member, Tree, fits, member_named, struct_members};
-use asn_tree::{ASN1Type, ASN1Value, ChoiceOption, SequenceOrSet, ToplevelDefinition};
+use asn_index::Names;
+use asn_memory::{List, Mem, OutOfMemory, Text};
+use asn_shapes::{Field, Member, Tree, member_named, struct_members};
+use asn_tree::{ASN1Type, ASN1Value, ChoiceOption, SequenceOrSet};
 use std::alloc::Global;
 
 /// An alternative as it is written: its name, and its value.
@@ -66,172 +70,133 @@ fn alternative_written<'a>(written: Written<'a>) -> Option<Chosen<'a>>
     }
 }
 
-/// What is denoted, where it has the shape that is wanted here; else none.
+/// What a value, read in its own scope, denotes under a type within a number of steps, and within more. Each turn of the loop
+/// follows one name of a value; what is denoted at the end is to have the shape of each head on the way.
 ///
-/// Err: want of memory.
-fn shaped<'a>(
-    alloc: Global,
-    definitions: &'a [ToplevelDefinition],
-    steps: usize,
-    head: &Place<'a>,
-    denotation: Denotation<Tree>,
-) -> Mem<Denotation<Tree>>
-    ensures { IfOk result (λ d. shown_denotation d ≡ shaped (meaning definitions.now steps) (shown_place head.now) (shown_denotation denotation)) }
-{
-    match denotation {
-        Denotation::Denoted(tree) => {
-            let answer = fits(alloc, definitions, steps, head, &tree)?;
-            Ok(provided(answer, tree))
-        }
-        Denotation::Nothing => Ok(Denotation::Nothing),
-        Denotation::Unsure => Ok(Denotation::Unsure),
-    }
-}
-
-/// What a value, read in its own scope, denotes under a type within a number of steps.
-///
-/// Unsure: the steps do not reach, or a name leads nowhere. Err: want of memory.
+/// Unsure: a name leads nowhere, however many steps there are. Err: want of memory, also where the steps are used up.
 #[cycle(denoting)]
-#[tactic(auto, using(crate::proofs::Denoting::denotes_at_zero, crate::proofs::Denoting::denotes_at_more))]
+#[tactic(auto, using(crate::proofs::Chaining::follow_begin))]
 pub fn denotes<'a>(
     alloc: Global,
-    definitions: &'a [ToplevelDefinition],
+    names: &Names<'a>,
     steps: usize,
     scope: &Scope<'a>,
     value: ValueForm<'a>,
     place: &Place<'a>,
 ) -> Mem<Denotation<Tree>>
-    ensures { IfOk result (λ d. shown_denotation d ≡ (meaning definitions.now steps).denotes (shown scope.now) (shown_value value.entry) (shown_place place.now)) }
+    ensures { IfOk result (λ d. (m : ℕ) → shown_denotation d ≡ (meaning names.now.definitions.now (steps + m)).denotes (shown scope.now) (shown_value value.entry) (shown_place place.now)) }
 {
-    if steps == 0 {
-        return Ok(Denotation::Unsure);
+    let mut wanted = List::new(alloc);
+    let mut read = read_at(alloc, scope, value, place)?;
+    for left in (0..steps).rev() {
+        match next_of(alloc, names, left, &read)? {
+            Next::Known(denoted) => {
+                let answer = shaped_by(alloc, names, wanted.as_slice(), denoted)?;
+                return Ok(answer);
+            }
+            Next::Further(head, next) => {
+                wanted = with_wanted(wanted, left, head)?;
+                read = next;
+            }
+        }
     }
-    let denoted = denotes_at(alloc, definitions, steps - 1, scope, value, place)?;
-    Ok(denoted)
+    Err(OutOfMemory)
 }
 
-/// What a value denotes under a type, by the type's head.
+/// What a value denotes under its type, or which value it names, by the type's head.
 #[cycle(denoting)]
 #[tactic(auto, using(crate::proofs::Denoting::headless, crate::proofs::Denoting::headed))]
-fn denotes_at<'a>(
-    alloc: Global,
-    definitions: &'a [ToplevelDefinition],
-    steps: usize,
-    scope: &Scope<'a>,
-    value: ValueForm<'a>,
-    place: &Place<'a>,
-) -> Mem<Denotation<Tree>>
-    ensures { IfOk result (λ d. shown_denotation d ≡ denotes_at definitions.now (meaning definitions.now steps) (shown scope.now) (shown_value value.entry) (shown_place place.now)) }
+fn next_of<'a>(alloc: Global, names: &Names<'a>, steps: usize, read: &Read<'a>) -> Mem<Next<'a>>
+    ensures { IfOk result (λ next. (m : ℕ) → next_denoted (meaning names.now.definitions.now (steps + m)) next ≡ denotes_at names.now.definitions.now (meaning names.now.definitions.now (steps + m)) (shown_read read.now).scope (shown_read read.now).value (shown_read read.now).place) }
 {
-    match head(alloc, definitions, steps, place)? {
-        None => Ok(Denotation::Unsure),
+    match head(alloc, names, steps, &read.place)? {
+        None => Ok(Next::Known(Denotation::Unsure)),
         Some(head) => {
-            let denoted = denoted_under(alloc, definitions, steps, scope, value, &head)?;
-            Ok(denoted)
+            let next = next_under(alloc, names, steps, &read.scope, read.value, &head)?;
+            Ok(next)
         }
     }
 }
 
-/// What a value denotes under a head: under an open type every value is opaque, a dummy, a name and a path too (X.681 14.2).
+/// What a value denotes under a head, or which value it names: under an open type every value is opaque, a dummy, a name and
+/// a path too (X.681 14.2).
 #[cycle(denoting)]
 #[tactic(auto, using(crate::proofs::Denoting::under_open, crate::proofs::Denoting::under_closed))]
-fn denoted_under<'a>(
+fn next_under<'a>(
     alloc: Global,
-    definitions: &'a [ToplevelDefinition],
+    names: &Names<'a>,
     steps: usize,
     scope: &Scope<'a>,
     value: ValueForm<'a>,
     head: &Place<'a>,
-) -> Mem<Denotation<Tree>>
-    ensures { IfOk result (λ d. shown_denotation d ≡ denoted_under definitions.now (meaning definitions.now steps) (shown scope.now) (shown_value value.entry) (shown_place head.now)) }
+) -> Mem<Next<'a>>
+    ensures { IfOk result (λ next. (m : ℕ) → next_denoted (meaning names.now.definitions.now (steps + m)) next ≡ denoted_under names.now.definitions.now (meaning names.now.definitions.now (steps + m)) (shown scope.now) (shown_value value.entry) (shown_place head.now)) }
 {
     if is_open(head) {
-        return Ok(Denotation::Denoted(opaque_tree()));
+        return Ok(Next::Known(Denotation::Denoted(opaque_tree())));
     }
     let written = value_written(value);
-    let denoted = value_denoted(alloc, definitions, steps, scope, written, head)?;
-    Ok(denoted)
+    let next = value_next(alloc, names, steps, scope, written, head)?;
+    Ok(next)
 }
 
-/// What is denoted by a name, an item, a value inside a linked form, or any other value by its row.
+/// Which value is named by a name; what is denoted by an item, a value inside a linked form, or any other value by its row.
 #[cycle(denoting)]
-fn value_denoted<'a>(
+fn value_next<'a>(
     alloc: Global,
-    definitions: &'a [ToplevelDefinition],
+    names: &Names<'a>,
     steps: usize,
     scope: &Scope<'a>,
     written: Written<'a>,
     head: &Place<'a>,
-) -> Mem<Denotation<Tree>>
-    ensures { IfOk result (λ d. shown_denotation d ≡ value_denoted definitions.now (meaning definitions.now steps) (shown scope.now) (shown_place head.now) (shown_written written.entry)) }
+) -> Mem<Next<'a>>
+    ensures { IfOk result (λ next. (m : ℕ) → next_denoted (meaning names.now.definitions.now (steps + m)) next ≡ value_denoted names.now.definitions.now (meaning names.now.definitions.now (steps + m)) (shown scope.now) (shown_place head.now) (shown_written written.entry)) }
 {
     match written {
         Written::Name { parent, identifier } => {
-            let denoted = reference_denoted(
-                alloc,
-                definitions,
-                steps,
-                scope,
-                parent,
-                identifier,
-                head,
-            )?;
-            Ok(denoted)
+            let next = named_next(alloc, names, steps, scope, parent, identifier, head)?;
+            Ok(next)
         }
-        Written::Item(name) => Ok(if_any(item_in(name.as_str(), kind_of(head.ty)))),
+        Written::Item(name) => {
+            let denoted = if_any(item_in(name.as_str(), kind_of(head.ty)));
+            Ok(Next::Known(denoted))
+        }
         Written::Nested(value) => {
             let value = ValueForm::Written(value);
-            let denoted = denotes(alloc, definitions, steps, scope, value, head)?;
-            Ok(denoted)
+            let denoted = denotes(alloc, names, steps, scope, value, head)?;
+            Ok(Next::Known(denoted))
         }
-        Written::All => written_denoted(alloc, definitions, steps, scope, written, head),
-        Written::Null => written_denoted(alloc, definitions, steps, scope, written, head),
-        Written::Truth(_) => written_denoted(alloc, definitions, steps, scope, written, head),
-        Written::Number(_) => written_denoted(alloc, definitions, steps, scope, written, head),
-        Written::Real(_) => written_denoted(alloc, definitions, steps, scope, written, head),
-        Written::Text(_) => written_denoted(alloc, definitions, steps, scope, written, head),
-        Written::Bits(_) => written_denoted(alloc, definitions, steps, scope, written, head),
-        Written::BitNames(_) => written_denoted(alloc, definitions, steps, scope, written, head),
-        Written::Octets(_) => written_denoted(alloc, definitions, steps, scope, written, head),
-        Written::Arcs(_) => written_denoted(alloc, definitions, steps, scope, written, head),
-        Written::Braces(_) => written_denoted(alloc, definitions, steps, scope, written, head),
-        Written::Fields(_) => written_denoted(alloc, definitions, steps, scope, written, head),
-        Written::Elements(_) => written_denoted(alloc, definitions, steps, scope, written, head),
-        Written::Alternative { .. } => {
-            written_denoted(alloc, definitions, steps, scope, written, head)
-        }
+        Written::All => row_next(alloc, names, steps, scope, written, head),
+        Written::Null => row_next(alloc, names, steps, scope, written, head),
+        Written::Truth(_) => row_next(alloc, names, steps, scope, written, head),
+        Written::Number(_) => row_next(alloc, names, steps, scope, written, head),
+        Written::Real(_) => row_next(alloc, names, steps, scope, written, head),
+        Written::Text(_) => row_next(alloc, names, steps, scope, written, head),
+        Written::Bits(_) => row_next(alloc, names, steps, scope, written, head),
+        Written::BitNames(_) => row_next(alloc, names, steps, scope, written, head),
+        Written::Octets(_) => row_next(alloc, names, steps, scope, written, head),
+        Written::Arcs(_) => row_next(alloc, names, steps, scope, written, head),
+        Written::Braces(_) => row_next(alloc, names, steps, scope, written, head),
+        Written::Fields(_) => row_next(alloc, names, steps, scope, written, head),
+        Written::Elements(_) => row_next(alloc, names, steps, scope, written, head),
+        Written::Alternative { .. } => row_next(alloc, names, steps, scope, written, head),
     }
 }
 
-/// What is denoted by a name, alone or behind the name of an object.
+/// What is denoted by a value that is no name, under a head.
 #[cycle(denoting)]
-#[tactic(auto, using(crate::proofs::Standing::stands_tree, crate::proofs::Standing::stands_read, crate::proofs::Standing::stands_open, crate::proofs::Standing::stands_lost))]
-fn reference_denoted<'a>(
+fn row_next<'a>(
     alloc: Global,
-    definitions: &'a [ToplevelDefinition],
+    names: &Names<'a>,
     steps: usize,
     scope: &Scope<'a>,
-    parent: Option<&'a Text>,
-    name: &'a Text,
+    written: Written<'a>,
     head: &Place<'a>,
-) -> Mem<Denotation<Tree>>
-    ensures { IfOk result (λ d. shown_denotation d ≡ reference_denoted definitions.now (meaning definitions.now steps) (shown scope.now) (shown_place head.now) (option_copied parent.entry) name.now) }
+) -> Mem<Next<'a>>
+    ensures { IfOk result (λ next. (m : ℕ) → next_denoted (meaning names.now.definitions.now (steps + m)) next ≡ written_denoted (meaning names.now.definitions.now (steps + m)) (shown scope.now) (shown_written written.entry) (shown_place head.now)) }
 {
-    match reference_stands(alloc, definitions, scope, head, parent, name)? {
-        Stands::Tree(tree) => Ok(Denotation::Denoted(tree)),
-        Stands::Read(read) => {
-            let place = &read.place;
-            let denoted = denotes(alloc, definitions, steps, &read.scope, read.value, place)?;
-            let answer = shaped(alloc, definitions, steps, head, denoted)?;
-            Ok(answer)
-        }
-        Stands::Open => {
-            let opaque = Denotation::Denoted(opaque_tree());
-            let answer = shaped(alloc, definitions, steps, head, opaque)?;
-            Ok(answer)
-        }
-        Stands::Nothing => Ok(Denotation::Unsure),
-    }
+    let denoted = written_denoted(alloc, names, steps, scope, written, head)?;
+    Ok(Next::Known(denoted))
 }
 
 /// What is denoted by a value that is no name, under a head.
@@ -239,20 +204,20 @@ fn reference_denoted<'a>(
 #[tactic(auto, using(crate::proofs::Denoting::by_row, crate::proofs::Denoting::by_parts))]
 fn written_denoted<'a>(
     alloc: Global,
-    definitions: &'a [ToplevelDefinition],
+    names: &Names<'a>,
     steps: usize,
     scope: &Scope<'a>,
     written: Written<'a>,
     head: &Place<'a>,
 ) -> Mem<Denotation<Tree>>
-    ensures { IfOk result (λ d. shown_denotation d ≡ written_denoted (meaning definitions.now steps) (shown scope.now) (shown_written written.entry) (shown_place head.now)) }
+    ensures { IfOk result (λ d. (m : ℕ) → shown_denotation d ≡ written_denoted (meaning names.now.definitions.now (steps + m)) (shown scope.now) (shown_written written.entry) (shown_place head.now)) }
 {
     let kind = kind_of(head.ty);
     match row(alloc, kind, written)? {
         Some(tree) => Ok(if_any(tree)),
         None => {
             let inside = &head.scope;
-            let denoted = parts_row(alloc, definitions, steps, scope, written, inside, kind)?;
+            let denoted = parts_row(alloc, names, steps, scope, written, inside, kind)?;
             Ok(denoted)
         }
     }
@@ -262,27 +227,27 @@ fn written_denoted<'a>(
 #[cycle(denoting)]
 fn parts_row<'a>(
     alloc: Global,
-    definitions: &'a [ToplevelDefinition],
+    names: &Names<'a>,
     steps: usize,
     scope: &Scope<'a>,
     written: Written<'a>,
     inside: &Scope<'a>,
     kind: Kind<'a>,
 ) -> Mem<Denotation<Tree>>
-    ensures { IfOk result (λ d. shown_denotation d ≡ parts_row (meaning definitions.now steps) (shown scope.now) (shown_written written.entry) (shown inside.now) (shown_kind kind.entry)) }
+    ensures { IfOk result (λ d. (m : ℕ) → shown_denotation d ≡ parts_row (meaning names.now.definitions.now (steps + m)) (shown scope.now) (shown_written written.entry) (shown inside.now) (shown_kind kind.entry)) }
 {
     match kind {
         Kind::Struct(layer) => {
-            let denoted = struct_row(alloc, definitions, steps, scope, written, inside, layer)?;
+            let denoted = struct_row(alloc, names, steps, scope, written, inside, layer)?;
             Ok(denoted)
         }
         Kind::List(ty) => {
-            let denoted = list_row(alloc, definitions, steps, scope, written, inside, ty)?;
+            let denoted = list_row(alloc, names, steps, scope, written, inside, ty)?;
             Ok(denoted)
         }
         Kind::Choice(options) => {
             let options = options.as_slice();
-            let denoted = choice_row(alloc, definitions, steps, scope, written, inside, options)?;
+            let denoted = choice_row(alloc, names, steps, scope, written, inside, options)?;
             Ok(denoted)
         }
         Kind::Null => Ok(Denotation::Unsure),
@@ -307,23 +272,23 @@ fn parts_row<'a>(
 #[tactic(auto, using(crate::proofs::Denoting::no_fields, crate::proofs::Denoting::members_unknown, crate::proofs::Denoting::members_known))]
 fn struct_row<'a>(
     alloc: Global,
-    definitions: &'a [ToplevelDefinition],
+    names: &Names<'a>,
     steps: usize,
     scope: &Scope<'a>,
     written: Written<'a>,
     inside: &Scope<'a>,
     layer: &'a SequenceOrSet,
 ) -> Mem<Denotation<Tree>>
-    ensures { IfOk result (λ d. shown_denotation d ≡ struct_row (meaning definitions.now steps) (shown scope.now) ((meaning definitions.now steps).members (shown inside.now) (out-SequenceOrSet layer.now)) (shown_written written.entry)) }
+    ensures { IfOk result (λ d. (m : ℕ) → shown_denotation d ≡ struct_row (meaning names.now.definitions.now (steps + m)) (shown scope.now) ((meaning names.now.definitions.now (steps + m)).members (shown inside.now) (out-SequenceOrSet layer.now)) (shown_written written.entry)) }
 {
     match fields_written(alloc, written)? {
         None => Ok(Denotation::Nothing),
-        Some(fields) => match struct_members(alloc, definitions, steps, inside, layer)? {
+        Some(fields) => match struct_members(alloc, names, steps, inside, layer)? {
             None => Ok(Denotation::Unsure),
             Some(members) => {
                 let fields = fields.as_slice();
                 let members = members.as_slice();
-                let denoted = struct_denoted(alloc, definitions, steps, scope, fields, members)?;
+                let denoted = struct_denoted(alloc, names, steps, scope, fields, members)?;
                 Ok(denoted)
             }
         },
@@ -335,18 +300,18 @@ fn struct_row<'a>(
 #[tactic(auto, using(crate::proofs::Denoting::may_not_stand, crate::proofs::Denoting::stands))]
 fn struct_denoted<'a>(
     alloc: Global,
-    definitions: &'a [ToplevelDefinition],
+    names: &Names<'a>,
     steps: usize,
     scope: &Scope<'a>,
     fields: &[NamedValue<'a>],
     members: &[Member<'a>],
 ) -> Mem<Denotation<Tree>>
-    ensures { IfOk result (λ d. shown_denotation d ≡ struct_denoted (meaning definitions.now steps) (shown scope.now) (shown_named_values fields.now) (shown_members members.now)) }
+    ensures { IfOk result (λ d. (m : ℕ) → shown_denotation d ≡ struct_denoted (meaning names.now.definitions.now (steps + m)) (shown scope.now) (shown_named_values fields.now) (shown_members members.now)) }
 {
     if !may_stand(fields, members) {
         return Ok(Denotation::Nothing);
     }
-    let parts = fields_denoted(alloc, definitions, steps, scope, members, fields)?;
+    let parts = fields_denoted(alloc, names, steps, scope, members, fields)?;
     Ok(struct_of(parts))
 }
 
@@ -355,17 +320,17 @@ fn struct_denoted<'a>(
 #[tactic(auto, using(crate::proofs::Denoting::fields_begin, crate::proofs::Denoting::fields_next, crate::proofs::Denoting::fields_done))]
 fn fields_denoted<'a>(
     alloc: Global,
-    definitions: &'a [ToplevelDefinition],
+    names: &Names<'a>,
     steps: usize,
     scope: &Scope<'a>,
     members: &[Member<'a>],
     fields: &[NamedValue<'a>],
 ) -> Mem<Denotation<List<Field>>>
-    ensures { IfOk result (λ d. made_parts (shown_parts d) ≡ fields_denoted (meaning definitions.now steps) (shown scope.now) (shown_members members.now) (shown_named_values fields.now)) }
+    ensures { IfOk result (λ d. (m : ℕ) → made_parts (shown_parts d) ≡ fields_denoted (meaning names.now.definitions.now (steps + m)) (shown scope.now) (shown_members members.now) (shown_named_values fields.now)) }
 {
     let mut parts = Denotation::Denoted(List::new(alloc));
     for field in fields {
-        let part = field_denoted(alloc, definitions, steps, scope, members, field)?;
+        let part = field_denoted(alloc, names, steps, scope, members, field)?;
         parts = with_part(alloc, parts, field.name, part)?;
     }
     Ok(parts)
@@ -376,19 +341,19 @@ fn fields_denoted<'a>(
 #[tactic(auto, using(crate::proofs::Denoting::memberless, crate::proofs::Denoting::of_member))]
 fn field_denoted<'a>(
     alloc: Global,
-    definitions: &'a [ToplevelDefinition],
+    names: &Names<'a>,
     steps: usize,
     scope: &Scope<'a>,
     members: &[Member<'a>],
     field: &NamedValue<'a>,
 ) -> Mem<Denotation<Tree>>
-    ensures { IfOk result (λ d. shown_denotation d ≡ member_denoted (meaning definitions.now steps) (shown scope.now) (member_named (shown_members members.now) field.now.name.now) (shown_value field.now.value)) }
+    ensures { IfOk result (λ d. (m : ℕ) → shown_denotation d ≡ member_denoted (meaning names.now.definitions.now (steps + m)) (shown scope.now) (member_named (shown_members members.now) field.now.name.now) (shown_value field.now.value)) }
 {
     match member_named(members, field.name.as_str()) {
         None => Ok(Denotation::Nothing),
         Some(member) => {
             let place = member.place(alloc)?;
-            let denoted = denotes(alloc, definitions, steps, scope, field.value, &place)?;
+            let denoted = denotes(alloc, names, steps, scope, field.value, &place)?;
             Ok(denoted)
         }
     }
@@ -399,14 +364,14 @@ fn field_denoted<'a>(
 #[tactic(auto, using(crate::proofs::Denoting::no_elements, crate::proofs::Denoting::some_elements))]
 fn list_row<'a>(
     alloc: Global,
-    definitions: &'a [ToplevelDefinition],
+    names: &Names<'a>,
     steps: usize,
     scope: &Scope<'a>,
     written: Written<'a>,
     inside: &Scope<'a>,
     ty: &'a ASN1Type,
 ) -> Mem<Denotation<Tree>>
-    ensures { IfOk result (λ d. shown_denotation d ≡ list_row (meaning definitions.now steps) (shown scope.now) (record { scope = shown inside.now; ty = ty.now }) (shown_written written.entry)) }
+    ensures { IfOk result (λ d. (m : ℕ) → shown_denotation d ≡ list_row (meaning names.now.definitions.now (steps + m)) (shown scope.now) (record { scope = shown inside.now; ty = ty.now }) (shown_written written.entry)) }
 {
     match elements_written(alloc, written)? {
         None => Ok(Denotation::Nothing),
@@ -417,7 +382,7 @@ fn list_row<'a>(
                 ty: TypeForm::Written(ty),
             };
             let values = values.as_slice();
-            let elements = trees_denoted(alloc, definitions, steps, scope, &place, values)?;
+            let elements = trees_denoted(alloc, names, steps, scope, &place, values)?;
             Ok(elements_of(elements))
         }
     }
@@ -428,17 +393,17 @@ fn list_row<'a>(
 #[tactic(auto, using(crate::proofs::Denoting::elements_begin, crate::proofs::Denoting::elements_next, crate::proofs::Denoting::elements_done))]
 fn trees_denoted<'a>(
     alloc: Global,
-    definitions: &'a [ToplevelDefinition],
+    names: &Names<'a>,
     steps: usize,
     scope: &Scope<'a>,
     place: &Place<'a>,
     values: &[ValueForm<'a>],
 ) -> Mem<Denotation<List<Tree>>>
-    ensures { IfOk result (λ d. made_elements (shown_elements d) ≡ trees_denoted (meaning definitions.now steps) (shown scope.now) (shown_place place.now) (shown_values values.now)) }
+    ensures { IfOk result (λ d. (m : ℕ) → made_elements (shown_elements d) ≡ trees_denoted (meaning names.now.definitions.now (steps + m)) (shown scope.now) (shown_place place.now) (shown_values values.now)) }
 {
     let mut elements = Denotation::Denoted(List::new(alloc));
     for value in values {
-        let element = denotes(alloc, definitions, steps, scope, *value, place)?;
+        let element = denotes(alloc, names, steps, scope, *value, place)?;
         elements = with_element(elements, element)?;
     }
     Ok(elements)
@@ -449,14 +414,14 @@ fn trees_denoted<'a>(
 #[tactic(auto, using(crate::proofs::Denoting::no_alternative, crate::proofs::Denoting::no_option, crate::proofs::Denoting::of_option))]
 fn choice_row<'a>(
     alloc: Global,
-    definitions: &'a [ToplevelDefinition],
+    names: &Names<'a>,
     steps: usize,
     scope: &Scope<'a>,
     written: Written<'a>,
     inside: &Scope<'a>,
     options: &'a [ChoiceOption],
 ) -> Mem<Denotation<Tree>>
-    ensures { IfOk result (λ d. shown_denotation d ≡ choice_row (meaning definitions.now steps) (shown scope.now) (shown inside.now) options.now (shown_written written.entry)) }
+    ensures { IfOk result (λ d. (m : ℕ) → shown_denotation d ≡ choice_row (meaning names.now.definitions.now (steps + m)) (shown scope.now) (shown inside.now) options.now (shown_written written.entry)) }
 {
     match alternative_written(written) {
         None => Ok(Denotation::Nothing),
@@ -469,7 +434,7 @@ fn choice_row<'a>(
                     ty: TypeForm::Written(&option.ty),
                 };
                 let value = ValueForm::Written(chosen.value);
-                let inner = denotes(alloc, definitions, steps, scope, value, &place)?;
+                let inner = denotes(alloc, names, steps, scope, value, &place)?;
                 let denoted = alternative_of(alloc, chosen.name, inner)?;
                 Ok(denoted)
             }

@@ -1,15 +1,14 @@
 -- Where names and types lead, and the head within a number of steps.
-use Rattle.std.proofs.Common.{◌≡◌, ℕ, ◌+◌, ◌-◌, ◌<◌, ◌≤◌, suc, zero, List, Option, Some, None, refl, sym, ap, ◌∙◌, arith}
+use Rattle.std.proofs.Common.{◌≡◌, ℕ, ◌+◌, ◌-◌, ◌<◌, suc, List, Some, None, ap, ◌∙◌, arith}
 use Rattle.asn_tree.specs.declared.constraints.Parameter.{Parameter}
 use Rattle.asn_tree.specs.declared.definitions.ToplevelTypeDefinition.{ToplevelTypeDefinition}
 use Rattle.asn_kinds.specs.declared.types.ChoiceSelectionType.{ChoiceSelectionType}
 use Rattle.asn_heads.specs.Leads.{option_target}
 use Rattle.asn_meaning.specs.Answers.{once}
 use Rattle.asn_meaning.specs.Definitions.{Definitions, type_named}
-use Rattle.asn_meaning.specs.Judge.{meaning, nothing_known, step}
-use Rattle.asn_meaning.specs.Kinds.{Kind, kind_of, NullKind, ReferenceKind, SelectionKind, FieldKind}
+use Rattle.asn_meaning.specs.Judge.{meaning, step}
 use Rattle.asn_meaning.specs.Meaning.{Meaning}
-use Rattle.asn_meaning.specs.Names.{Lead, IsHead, LeadsTo, IsLost, dummy_target, head_from, head_named, instance, lead, name_target, option_named, options_of, selection_target}
+use Rattle.asn_meaning.specs.Names.{IsHead, LeadsTo, IsLost, dummy_target, head_from, head_named, instance, lead, name_target, option_named, options_of, selection_target}
 use Rattle.asn_meaning.specs.Scopes.{Bound, Place, Scope, Target, bound_to}
 
 pub name_of_dummy : (defs : Definitions) (scope : Scope) (name : List ℕ) (lists : List (List Parameter)) (b : Bound) → bound_to scope name ≡ Some b →
@@ -39,23 +38,19 @@ selection_of_head M scope x h e =
 
 -- ---- heads
 
-pub head_at_zero : (defs : Definitions) (n : ℕ) (p : Place) → n ≡ 0 → (meaning defs n).head p ≡ None
-unfolding meaning nothing_known
-head_at_zero defs zero p e = refl
-head_at_zero defs (suc n) p e = absurd (omega arith)
-
-head_at_more : (defs : Definitions) (n m : ℕ) (p : Place) → n ≡ suc m → (meaning defs n).head p ≡ head_from (meaning defs m) p (lead defs (meaning defs m) p)
+pub head_at_more : (defs : Definitions) (n k : ℕ) (p : Place) → n ≡ suc k → (meaning defs n).head p ≡ head_from (meaning defs k) p (lead defs (meaning defs k) p)
 unfolding meaning step
-head_at_more defs n m p e = ap (λ k. (meaning defs k).head p) e
+head_at_more defs n k p more = ap (λ i. (meaning defs i).head p) more
 
-less : (n : ℕ) → 0 < n → n ≡ suc (n - 1)
-less n lt = omega arith
+pub one_more : (n m : ℕ) → 0 < n → n + m ≡ suc (n - 1 + m)
+one_more n m lt = omega arith
 
-pub head_is : (defs : Definitions) (n : ℕ) (p : Place) → 0 < n → lead defs (meaning defs (n - 1)) p ≡ IsHead → (meaning defs n).head p ≡ Some p
-head_is defs n p lt e = head_at_more defs n (n - 1) p (less n lt) ∙ ap (head_from (meaning defs (n - 1)) p) e
+pub head_is : (defs : Definitions) (n m : ℕ) (p : Place) → 0 < n → lead defs (meaning defs (n - 1 + m)) p ≡ IsHead → (meaning defs (n + m)).head p ≡ Some p
+head_is defs n m p lt e = head_at_more defs (n + m) (n - 1 + m) p (one_more n m lt) ∙ ap (head_from (meaning defs (n - 1 + m)) p) e
 
-pub head_beyond : (defs : Definitions) (n : ℕ) (p : Place) (x : Target) → 0 < n → lead defs (meaning defs (n - 1)) p ≡ LeadsTo x → (meaning defs n).head p ≡ (meaning defs (n - 1)).head x.place
-head_beyond defs n p x lt e = head_at_more defs n (n - 1) p (less n lt) ∙ ap (head_from (meaning defs (n - 1)) p) e
+pub head_beyond : (defs : Definitions) (n m : ℕ) (p : Place) (x : Target) → 0 < n → lead defs (meaning defs (n - 1 + m)) p ≡ LeadsTo x →
+    (meaning defs (n + m)).head p ≡ (meaning defs (n - 1 + m)).head x.place
+head_beyond defs n m p x lt e = head_at_more defs (n + m) (n - 1 + m) p (one_more n m lt) ∙ ap (head_from (meaning defs (n - 1 + m)) p) e
 
-pub head_lost : (defs : Definitions) (n : ℕ) (p : Place) → 0 < n → lead defs (meaning defs (n - 1)) p ≡ IsLost → (meaning defs n).head p ≡ None
-head_lost defs n p lt e = head_at_more defs n (n - 1) p (less n lt) ∙ ap (head_from (meaning defs (n - 1)) p) e
+pub head_lost : (defs : Definitions) (n m : ℕ) (p : Place) → 0 < n → lead defs (meaning defs (n - 1 + m)) p ≡ IsLost → (meaning defs (n + m)).head p ≡ None
+head_lost defs n m p lt e = head_at_more defs (n + m) (n - 1 + m) p (one_more n m lt) ∙ ap (head_from (meaning defs (n - 1 + m)) p) e

@@ -1,11 +1,12 @@
 pub mod Scoping
-pub mod Seeing
 pub mod Listing
 pub mod Fields
 pub mod Finding
-pub mod Entering
 pub mod Giving
 pub mod Numbers
 pub mod Due
 pub mod Walking
 pub mod Leading
+pub mod Circling
+pub mod Trailing
+pub mod Passing

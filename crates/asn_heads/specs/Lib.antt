@@ -1,6 +1,5 @@
 pub mod Scopes
 pub mod Kinds
-pub mod Definitions
 pub mod Written
 pub mod Places
 pub mod Lists
@@ -9,3 +8,4 @@ pub mod Values
 pub mod Objects
 pub mod Leads
 pub mod inner
+pub mod Trails

@@ -11,16 +11,18 @@ ghost use Rattle.asn_meaning.specs.Kinds.{kind_of_type};
 ghost use Rattle.asn_meaning.specs.Names.{field_lead, head_named, lead, leading, option_named, options_in, options_of, selection_target};
 ghost use Rattle.asn_heads.specs.Classes.{shown_field_type};
 ghost use Rattle.std.specs.Option.{option_map};
-ghost use Rattle.std.specs.Prelude.{◌≡◌, IfOk};
+ghost use Rattle.std.specs.Prelude.{◌≡◌, ◌+◌, ℕ, IfOk};
 
+use crate::circles::is_lost;
 use crate::classes::{FieldType, class_field_type};
 use crate::items::option_named;
 use crate::kinds::{Kind, Reference, TypeForm, kind_of};
 use crate::names::reference_target;
 use crate::places::{Place, Target};
 use crate::scopes::Scope;
-use asn_memory::{Mem, Text};
-use asn_tree::{ChoiceOption, ChoiceSelectionType, ToplevelDefinition};
+use asn_index::Names;
+use asn_memory::{Mem, OutOfMemory, Text};
+use asn_tree::{ChoiceOption, ChoiceSelectionType};
 use std::alloc::Global;
 
 /// Where a type leads.
@@ -106,14 +108,14 @@ fn selected<'a>(head: Place<'a>, name: &str) -> Option<Target<'a>>
 #[tactic(auto, using(crate::proofs::Leading::selection_of_none, crate::proofs::Leading::selection_of_head))]
 fn selection_target<'a>(
     alloc: Global,
-    definitions: &'a [ToplevelDefinition],
+    names: &Names<'a>,
     steps: usize,
     scope: &Scope<'a>,
     selection: &'a ChoiceSelectionType,
 ) -> Mem<Option<Target<'a>>>
-    ensures { IfOk result (λ target. option_map shown_target target ≡ selection_target (meaning definitions.now steps) (shown scope.now) selection.now) }
+    ensures { IfOk result (λ target. (m : ℕ) → option_map shown_target target ≡ selection_target (meaning names.now.definitions.now (steps + m)) (shown scope.now) selection.now) }
 {
-    match head_named(alloc, definitions, steps, scope, &selection.choice_name)? {
+    match head_named(alloc, names, steps, scope, &selection.choice_name)? {
         None => Ok(None),
         Some(head) => Ok(selected(head, selection.selected_option.as_str())),
     }
@@ -126,23 +128,23 @@ fn selection_target<'a>(
 #[cycle(heading)]
 pub fn lead_of<'a>(
     alloc: Global,
-    definitions: &'a [ToplevelDefinition],
+    names: &Names<'a>,
     steps: usize,
     place: &Place<'a>,
 ) -> Mem<Lead<'a>>
-    ensures { IfOk result (λ l. shown_lead l ≡ lead definitions.now (meaning definitions.now steps) (shown_place place.now)) }
+    ensures { IfOk result (λ l. (m : ℕ) → shown_lead l ≡ lead names.now.definitions.now (meaning names.now.definitions.now (steps + m)) (shown_place place.now)) }
 {
     match kind_of(place.ty) {
         Kind::Reference(reference) => {
-            let target = reference_target(alloc, definitions, &place.scope, reference)?;
+            let target = reference_target(alloc, names, &place.scope, reference)?;
             Ok(leading(target))
         }
         Kind::Selection(selection) => {
-            let target = selection_target(alloc, definitions, steps, &place.scope, selection)?;
+            let target = selection_target(alloc, names, steps, &place.scope, selection)?;
             Ok(leading(target))
         }
         Kind::Field(field) => {
-            let ty = class_field_type(definitions, &place.scope, field);
+            let ty = class_field_type(names, &place.scope, field);
             Ok(field_lead(ty))
         }
         Kind::Null => Ok(Lead::Head),
@@ -162,33 +164,33 @@ pub fn lead_of<'a>(
     }
 }
 
-/// The head of a type within a number of steps: the first type on the way that leads nowhere else.
+/// The head of a type: the first type on the way that leads nowhere else. It is found within these steps, and stays the same
+/// within more.
 ///
-/// None: the steps do not reach, or a name leads nowhere. Err: want of memory.
+/// None: the type has no head, however many steps there are, since a name leads nowhere, or is one that leads back to itself whatever
+/// its arguments. Err: want of memory, also where the steps are used up.
 #[cycle(heading)]
-#[tactic(auto, using(crate::proofs::Leading::head_at_zero, crate::proofs::Leading::head_is, crate::proofs::Leading::head_beyond, crate::proofs::Leading::head_lost))]
+#[tactic(auto, using(crate::proofs::Leading::head_is, crate::proofs::Leading::head_beyond, crate::proofs::Leading::head_lost, crate::proofs::Circling::lost_headless))]
 pub fn head<'a>(
     alloc: Global,
-    definitions: &'a [ToplevelDefinition],
+    names: &Names<'a>,
     steps: usize,
     place: &Place<'a>,
 ) -> Mem<Option<Place<'a>>>
-    ensures { IfOk result (λ found. option_map shown_place found ≡ (meaning definitions.now steps).head (shown_place place.now)) }
+    ensures { IfOk result (λ found. (m : ℕ) → option_map shown_place found ≡ (meaning names.now.definitions.now (steps + m)).head (shown_place place.now)) }
 {
-    if steps == 0 {
-        return Ok(None);
-    }
-    match lead_of(alloc, definitions, steps - 1, place)? {
-        Lead::Head => {
-            let head = place.copy(alloc)?;
-            Ok(Some(head))
+    let mut at = place.copy(alloc)?;
+    for left in (0..steps).rev() {
+        if is_lost(names, &at, steps - left) {
+            return Ok(None);
         }
-        Lead::Target(target) => {
-            let found = head(alloc, definitions, steps - 1, &target.place)?;
-            Ok(found)
+        match lead_of(alloc, names, left, &at)? {
+            Lead::Head => return Ok(Some(at)),
+            Lead::Target(target) => at = target.place,
+            Lead::Lost => return Ok(None),
         }
-        Lead::Lost => Ok(None),
     }
+    Err(OutOfMemory)
 }
 
 /// The head of a type that a name stands for.
@@ -197,18 +199,18 @@ pub fn head<'a>(
 #[cycle(heading)]
 pub fn head_named<'a>(
     alloc: Global,
-    definitions: &'a [ToplevelDefinition],
+    names: &Names<'a>,
     steps: usize,
     scope: &Scope<'a>,
     name: &'a Text,
 ) -> Mem<Option<Place<'a>>>
-    ensures { IfOk result (λ found. option_map shown_place found ≡ head_named (meaning definitions.now steps) (shown scope.now) name.now) }
+    ensures { IfOk result (λ found. (m : ℕ) → option_map shown_place found ≡ head_named (meaning names.now.definitions.now (steps + m)) (shown scope.now) name.now) }
 {
     let scope = scope.copy(alloc)?;
     let place = Place {
         scope,
         ty: TypeForm::Reference(Reference::Named(name)),
     };
-    let found = head(alloc, definitions, steps, &place)?;
+    let found = head(alloc, names, steps, &place)?;
     Ok(found)
 }

@@ -1,5 +1,5 @@
 -- What types accept, within a number of steps.
-use Rattle.std.proofs.Common.{◌≡◌, ℕ, ◌-◌, ◌<◌, zero, suc, List, Bool, Option, Some, None, refl, ap, ◌∙◌, arith}
+use Rattle.std.proofs.Common.{◌≡◌, ℕ, ◌+◌, ◌-◌, ◌<◌, suc, List, Bool, Option, Some, None, refl, ap, ◌∙◌, arith}
 use Rattle.std.specs.Option.{option_map}
 use Rattle.asn_tree.specs.declared.constraints.Constraint.{Constraint}
 use Rattle.asn_tree.specs.declared.types.ASN1Type.{ASN1Type}
@@ -7,7 +7,7 @@ use Rattle.asn_judge.specs.inner.Judging.{type_of_elements}
 use Rattle.asn_meaning.specs.Answers.{Answer, Unknown, answer_of, both, once}
 use Rattle.asn_meaning.specs.Constraints.{all_hold}
 use Rattle.asn_meaning.specs.Definitions.{Definitions}
-use Rattle.asn_meaning.specs.Judge.{accepts_at, head_accepts, meaning, nothing_known, stands_for, step}
+use Rattle.asn_meaning.specs.Judge.{accepts_at, head_accepts, meaning, stands_for, step}
 use Rattle.asn_meaning.specs.Kinds.{Kind, NullKind, BooleanKind, IntegerKind, RealKind, BitStringKind, OctetStringKind, CharacterStringKind, TimeKind, EnumeratedKind, ObjectIdentifierKind, OpaqueKind, StructKind, ListKind, ChoiceKind, FieldKind, ReferenceKind, SelectionKind, kind_of}
 use Rattle.asn_meaning.specs.Meaning.{Meaning}
 use Rattle.asn_meaning.specs.Members.{element_in, element_place}
@@ -19,17 +19,13 @@ use Rattle.asn_meaning.specs.ValueTrees.{ValueTree}
 
 -- ---- steps
 
-pub accepts_at_zero : (defs : Definitions) (n : ℕ) (p : Place) (cs : List Constraint) (t : ValueTree) → n ≡ 0 → (meaning defs n).accepts p cs t ≡ Unknown
-unfolding meaning nothing_known
-accepts_at_zero defs zero p cs t e = refl
-accepts_at_zero defs (suc n) p cs t e = absurd (omega arith)
-
-accepts_at_suc : (defs : Definitions) (n m : ℕ) (p : Place) (cs : List Constraint) (t : ValueTree) → n ≡ suc m → (meaning defs n).accepts p cs t ≡ accepts_at defs (meaning defs m) p cs t
+pub accepts_suc : (defs : Definitions) (n k : ℕ) (p : Place) (cs : List Constraint) (t : ValueTree) → n ≡ suc k → (meaning defs n).accepts p cs t ≡ accepts_at defs (meaning defs k) p cs t
 unfolding meaning step
-accepts_at_suc defs n m p cs t e = ap (λ k. (meaning defs k).accepts p cs t) e
+accepts_suc defs n k p cs t e = ap (λ i. (meaning defs i).accepts p cs t) e
 
-pub accepts_at_more : (defs : Definitions) (n : ℕ) (p : Place) (cs : List Constraint) (t : ValueTree) → 0 < n → (meaning defs n).accepts p cs t ≡ accepts_at defs (meaning defs (n - 1)) p cs t
-accepts_at_more defs n p cs t lt = accepts_at_suc defs n (n - 1) p cs t (omega arith)
+pub accepts_at_more : (defs : Definitions) (n m : ℕ) (p : Place) (cs : List Constraint) (t : ValueTree) → 0 < n →
+    (meaning defs (n + m)).accepts p cs t ≡ accepts_at defs (meaning defs (n - 1 + m)) p cs t
+accepts_at_more defs n m p cs t lt = accepts_suc defs (n + m) (n - 1 + m) p cs t (omega arith)
 
 -- ---- what a type stands for, and its constraints
 

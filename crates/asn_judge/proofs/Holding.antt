@@ -1,5 +1,5 @@
 -- Constraints one by one, and the elements of sets.
-use Rattle.std.proofs.Common.{◌≡◌, ℕ, ◌+◌, ◌-◌, ◌<◌, ◌≤◌, zero, suc, List, [], ◌∷◌, ◌++◌, drop, length, get_or, Bool, true, false, Option, Some, None, refl, sym, ap, ◌∙◌, arith}
+use Rattle.std.proofs.Common.{◌≡◌, ℕ, ◌+◌, ◌-◌, ◌<◌, ◌≤◌, suc, List, [], ◌∷◌, ◌++◌, drop, length, get_or, Bool, true, false, Option, Some, None, refl, sym, ap, ◌∙◌, arith}
 use Rattle.std.specs.Prelude.{map, pos, if◌then◌else◌}
 use Rattle.std.proofs.lemmas.List.{drop_more, drop_all}
 use Rattle.asn_kinds.specs.declared.constraints.SetOperator.{SetOperator}
@@ -17,39 +17,34 @@ use Rattle.asn_judge.proofs.Listing.{ended, item_next, items_done, regrouped}
 use Rattle.asn_meaning.specs.Answers.{Answer, Yes, No, Unknown, both, once}
 use Rattle.asn_meaning.specs.Constraints.{all_hold, alphabet_holds, component_holds, constraint_at, constraint_holds, holds_at, part_holds, set_holds, size_holds, sizes}
 use Rattle.asn_meaning.specs.Definitions.{Definitions}
-use Rattle.asn_meaning.specs.Judge.{meaning, nothing_known, step}
+use Rattle.asn_meaning.specs.Judge.{meaning, step}
 use Rattle.asn_meaning.specs.Meaning.{Meaning, Parent, ValuesOf, CharactersOf}
 use Rattle.asn_meaning.specs.Members.{element_place}
 use Rattle.asn_meaning.specs.Numbers.{Chain, Numbers, answers, numbers_from, ranked, ranked_from}
-use Rattle.asn_meaning.specs.Ranges.{codes_of, integer_named, is_free, narrowed, narrowed_by_all}
+use Rattle.asn_meaning.specs.Placed.{listed}
+use Rattle.asn_meaning.specs.Ranges.{all_constraints, codes_of, integer_named, is_free, narrowed, narrowed_by_all}
+use Rattle.asn_notation.specs.Types.{constraints_of}
+use Rattle.asn_ranges.proofs.Narrowing.{own_first}
 use Rattle.asn_meaning.specs.Scopes.{Place, Scope}
 use Rattle.asn_meaning.specs.Shapes.{list_judged}
 use Rattle.asn_meaning.specs.ValueTrees.{ValueTree, NullValue, TruthValue, WholeNumber, ItemNumber, RealNumber, Bits, Octets, Characters, ObjectIdentifierArcs, Struct, Elements, Alternative, Opaque, counted}
 
 -- ---- steps
 
-pub holds_at_zero : (defs : Definitions) (n : ℕ) (scope : Scope) (parent : Parent) (e : SubtypeElement) (t : ValueTree) → n ≡ 0 → (meaning defs n).holds scope parent e t ≡ Unknown
-unfolding meaning nothing_known
-holds_at_zero defs zero scope parent e t is = refl
-holds_at_zero defs (suc n) scope parent e t is = absurd (omega arith)
-
-holds_at_suc : (defs : Definitions) (n m : ℕ) (scope : Scope) (parent : Parent) (e : SubtypeElement) (t : ValueTree) → n ≡ suc m →
-    (meaning defs n).holds scope parent e t ≡ holds_at (meaning defs m) scope parent t (out-SubtypeElement e)
+holds_at_suc : (defs : Definitions) (n k : ℕ) (scope : Scope) (parent : Parent) (e : SubtypeElement) (t : ValueTree) → n ≡ suc k →
+    (meaning defs n).holds scope parent e t ≡ holds_at (meaning defs k) scope parent t (out-SubtypeElement e)
 unfolding meaning step
-holds_at_suc defs n m scope parent e t is = ap (λ k. (meaning defs k).holds scope parent e t) is
+holds_at_suc defs n k scope parent e t is = ap (λ i. (meaning defs i).holds scope parent e t) is
 
-pub holds_at_more : (defs : Definitions) (n : ℕ) (scope : Scope) (parent : Parent) (e : SubtypeElement) (t : ValueTree) → 0 < n →
-    (meaning defs n).holds scope parent e t ≡ holds_at (meaning defs (n - 1)) scope parent t (out-SubtypeElement e)
-holds_at_more defs n scope parent e t lt = holds_at_suc defs n (n - 1) scope parent e t (omega arith)
+pub holds_at_more : (defs : Definitions) (n m : ℕ) (scope : Scope) (parent : Parent) (e : SubtypeElement) (t : ValueTree) → 0 < n →
+    (meaning defs (n + m)).holds scope parent e t ≡ holds_at (meaning defs (n - 1 + m)) scope parent t (out-SubtypeElement e)
+holds_at_more defs n m scope parent e t lt = holds_at_suc defs (n + m) (n - 1 + m) scope parent e t (omega arith)
 
 -- ---- elements joined by operators
 
-pub no_chain : (M : Meaning) (scope : Scope) (parent : Parent) (set : ElementOrSetOperation) (t : ValueTree) → M.chain set ≡ None → set_holds M scope parent set t ≡ Unknown
-no_chain M scope parent set t e = ap (λ found. once Unknown found (ranked answers (element_holds M scope parent t))) e
-
-pub some_chain : (M : Meaning) (scope : Scope) (parent : Parent) (set : ElementOrSetOperation) (t : ValueTree) (c : Chain) → M.chain set ≡ Some c →
+pub chained : (M : Meaning) (scope : Scope) (parent : Parent) (set : ElementOrSetOperation) (t : ValueTree) (c : Chain) → M.chain set ≡ Some c →
     set_holds M scope parent set t ≡ ranked answers (element_holds M scope parent t) c
-some_chain M scope parent set t c e = ap (λ found. once Unknown found (ranked answers (element_holds M scope parent t))) e
+chained M scope parent set t c e = ap (λ found. once Unknown found (ranked answers (element_holds M scope parent t))) e
 
 abbrev pub ranked_by : (SubtypeElement → Answer) → Ranks → List Joined → Answer
 ranked_by f r js = ranked_from answers f r.united r.met r.last (map shown_joined js)
@@ -114,13 +109,23 @@ held_by_all M scope h n (c ∷ cs) ds t =
     ap (both (constraint_holds M scope h n c t)) (held_by_all M scope h (narrowed M scope h n c) cs ds t)
     ∙ sym (regrouped (constraint_holds M scope h n c t) (all_hold M scope h (narrowed M scope h n c) cs t) (all_hold M scope h (narrowed_by_all M scope h (narrowed M scope h n c) cs) ds t))
 
-pub held_of_both : (M : Meaning) (scope : Scope) (h : Place) (n m : Option Numbers) (cs ds : List Constraint) (t : ValueTree) (a b : Answer) → a ≡ all_hold M scope h n cs t →
+held_of_both : (M : Meaning) (scope : Scope) (h : Place) (n m : Option Numbers) (cs ds : List Constraint) (t : ValueTree) (a b : Answer) → a ≡ all_hold M scope h n cs t →
     m ≡ narrowed_by_all M scope h n cs → b ≡ all_hold M scope h m ds t → all_hold M scope h n (cs ++ ds) t ≡ both a b
 held_of_both M scope h n m cs ds t a b is left further =
     held_by_all M scope h n cs ds t
     ∙ sym (ap (λ x. both x (all_hold M scope h (narrowed_by_all M scope h n cs) ds t)) is)
     ∙ sym (ap (λ x. both a (all_hold M scope h x ds t)) left)
     ∙ sym (ap (both a) further)
+
+pub held_of_all : (M : Meaning) (h p : Place) (n m : Option Numbers) (own ds : List Constraint) (t : ValueTree) (before a b : Answer) → own ≡ listed (constraints_of p.ty) →
+    a ≡ all_hold M p.scope h n own t → m ≡ narrowed_by_all M p.scope h n own → b ≡ all_hold M p.scope h m ds t →
+    both before (both a b) ≡ both before (all_hold M p.scope h n (all_constraints p ds) t)
+held_of_all M h p n m own ds t before a b at is left further =
+    sym (ap (both before) (ap (λ cs. all_hold M p.scope h n (cs ++ ds) t) (sym at) ∙ held_of_both M p.scope h n m own ds t a b is left further))
+
+pub left_of_all : (M : Meaning) (h p : Place) (n m k : Option Numbers) (own ds : List Constraint) → own ≡ listed (constraints_of p.ty) → m ≡ narrowed_by_all M p.scope h n own →
+    k ≡ narrowed_by_all M p.scope h m ds → k ≡ narrowed_by_all M p.scope h n (all_constraints p ds)
+left_of_all M h p n m k own ds at left further = further ∙ own_first M h p own ds n n m refl at left
 
 pub part_headless : (M : Meaning) (scope : Scope) (p : Place) (cs : List Constraint) (t : ValueTree) → M.head p ≡ None → part_holds M scope p cs t ≡ Unknown
 part_headless M scope p cs t e = ap (λ found. once Unknown found (λ head. all_hold M scope head (M.numbers p []) cs t)) e

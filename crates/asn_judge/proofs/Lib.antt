@@ -5,3 +5,4 @@ pub mod Inner
 pub mod Listing
 pub mod Singling
 pub mod Spelling
+pub mod Passed

@@ -6,8 +6,8 @@ use Rattle.std.specs.Str.{bytes_eq}
 use Rattle.asn_tree.specs.declared.values.ASN1Value.{ASN1Value}
 use Rattle.asn_judge.specs.inner.Characters.{character_in, characters_in}
 use Rattle.asn_judge.specs.inner.Singles.{whole_in}
-use Rattle.asn_meaning.specs.Answers.{Answer, Yes, No, Unknown, answer_of, once, unless_all, Denotation}
-use Rattle.asn_meaning.specs.Constraints.{compared, number_asked, occurs, range_holds, single_holds}
+use Rattle.asn_meaning.specs.Answers.{Answer, Yes, No, Unknown, answer_of, both, once, unless_all, Denotation}
+use Rattle.asn_meaning.specs.Constraints.{compared, number_asked, occurs, range_holds, side_holds, single_holds}
 use Rattle.asn_meaning.specs.Meaning.{Meaning, Parent, ValuesOf, CharactersOf}
 use Rattle.asn_meaning.specs.Numbers.{Numbers}
 use Rattle.asn_meaning.specs.Ranges.{value_place}
@@ -122,11 +122,14 @@ none_asked codes t e = asked_of_characters codes t ∙ ap (λ found. once None f
 pub code_asked : (codes : Numbers) (t : ValueTree) (c : ℕ) → character_in t ≡ Some c → number_asked (CharactersOf codes) t ≡ Some (pos c)
 code_asked codes t c e = asked_of_characters codes t ∙ ap (λ found. once None found (λ c. Some (pos c))) e
 
-pub out_of_range : (s : Option Numbers) (n : Option ℤ) → n ≡ None → range_holds s n ≡ No
-out_of_range s n e = ap (range_holds s) e
+pub side_known : (side : Option Numbers) (i : ℤ) (set : Numbers) (b : Bool) → side ≡ Some set → b ≡ set.has i → side_holds side i ≡ answer_of b
+side_known side i set b e f = ap (λ found. side_holds found i) e ∙ sym (ap answer_of f)
 
-pub range_lost : (s : Option Numbers) (n : Option ℤ) (i : ℤ) → n ≡ Some i → s ≡ None → range_holds s n ≡ Unknown
-range_lost s n i e f = ap (range_holds s) e ∙ ap (λ found. range_holds found (Some i)) f
+pub out_of_range : (low high : Option Numbers) (n : Option ℤ) → n ≡ None → range_holds low high n ≡ No
+out_of_range low high n e = ap (range_holds low high) e
 
-pub range_known : (s : Option Numbers) (n : Option ℤ) (i : ℤ) (set : Numbers) (b : Bool) → n ≡ Some i → s ≡ Some set → b ≡ set.has i → range_holds s n ≡ answer_of b
-range_known s n i set b e f g = ap (range_holds s) e ∙ ap (λ found. range_holds found (Some i)) f ∙ sym (ap answer_of g)
+pub between_ends : (low high from to : Option Numbers) (n : Option ℤ) (i : ℤ) (above below : Answer) → n ≡ Some i → from ≡ low → to ≡ high →
+    above ≡ side_holds from i → below ≡ side_holds to i → range_holds low high n ≡ both above below
+between_ends low high from to n i above below e f g a b =
+    ap (range_holds low high) e
+    ∙ sym (ap (λ x. both x below) (a ∙ ap (λ s. side_holds s i) f) ∙ ap (both (side_holds low i)) (b ∙ ap (λ s. side_holds s i) g))

@@ -5,22 +5,24 @@ ghost use Rattle.asn_heads.specs.Places.{shown_place};
 ghost use Rattle.asn_heads.specs.Scopes.{shown};
 ghost use Rattle.asn_judge.specs.inner.Singles.{whole_in};
 ghost use Rattle.asn_ranges.specs.Parents.{shown_parent};
+ghost use Rattle.asn_ranges.specs.Sets.{shown_numbers};
 ghost use Rattle.asn_shapes.specs.Answers.{known};
 ghost use Rattle.asn_shapes.specs.Trees.{shown_tree};
-ghost use Rattle.asn_meaning.specs.Constraints.{compared, is_value, number_asked, occurs, range_holds, single_holds};
+ghost use Rattle.asn_meaning.specs.Constraints.{compared, is_value, number_asked, occurs, range_holds, side_holds, single_holds};
 ghost use Rattle.asn_meaning.specs.Judge.{meaning};
-ghost use Rattle.asn_meaning.specs.Ranges.{range, value_place};
-ghost use Rattle.std.specs.Option.{option_copied};
-ghost use Rattle.std.specs.Prelude.{◌≡◌, IfOk};
+ghost use Rattle.asn_meaning.specs.Ranges.{from_low, up_to_high, value_place};
+ghost use Rattle.std.specs.Option.{option_copied, option_map};
+ghost use Rattle.std.specs.Prelude.{◌≡◌, IfOk, ℕ, ◌+◌};
 
 use crate::characters::{characters_of, occurs_among, only_character, text_of};
 use crate::trees::same_tree;
 use asn_denotes::{Denotation, denotes, is_all};
 use asn_heads::{Place, Scope, ValueForm};
+use asn_index::Names;
 use asn_memory::Mem;
-use asn_ranges::{Parent, range, value_place};
+use asn_ranges::{Numbers, Parent, from_low, up_to_high, value_place};
 use asn_shapes::{Answer, Tree, View};
-use asn_tree::{ASN1Value, ToplevelDefinition};
+use asn_tree::ASN1Value;
 use std::alloc::Global;
 
 /// Whether a text of one character occurs in a text.
@@ -84,7 +86,7 @@ fn compared(
 #[tactic(auto, using(crate::proofs::Singling::single_all, crate::proofs::Singling::single_unknown, crate::proofs::Singling::single_compared))]
 fn single_holds_under<'a>(
     alloc: Global,
-    definitions: &'a [ToplevelDefinition],
+    names: &Names<'a>,
     steps: usize,
     scope: &Scope<'a>,
     parent: Parent<'_, '_, 'a>,
@@ -93,14 +95,14 @@ fn single_holds_under<'a>(
     tree: &Tree,
 ) -> Mem<Answer>
     requires { shown_place place.now ≡ value_place (shown_parent parent) }
-    ensures { IfOk result (λ answer. known answer ≡ single_holds (meaning definitions.now steps) (shown scope.now) (shown_parent parent.entry) value.now (shown_tree tree.now)) }
+    ensures { IfOk result (λ answer. (m : ℕ) → known answer ≡ single_holds (meaning names.now.definitions.now (steps + m)) (shown scope.now) (shown_parent parent.entry) value.now (shown_tree tree.now)) }
 {
     let form = ValueForm::Written(value);
-    match is_all(alloc, definitions, steps, scope, form, place)? {
+    match is_all(alloc, names, steps, scope, form, place)? {
         Answer::Yes => Ok(Answer::Yes),
         Answer::Unknown => Ok(Answer::Unknown),
         Answer::No => {
-            let denoted = denotes(alloc, definitions, steps, scope, form, place)?;
+            let denoted = denotes(alloc, names, steps, scope, form, place)?;
             let answer = compared(alloc, parent, tree, &denoted)?;
             Ok(answer)
         }
@@ -112,26 +114,17 @@ fn single_holds_under<'a>(
 /// Err: want of memory.
 pub fn single_holds<'a>(
     alloc: Global,
-    definitions: &'a [ToplevelDefinition],
+    names: &Names<'a>,
     steps: usize,
     scope: &Scope<'a>,
     parent: Parent<'_, '_, 'a>,
     value: &'a ASN1Value,
     tree: &Tree,
 ) -> Mem<Answer>
-    ensures { IfOk result (λ answer. known answer ≡ single_holds (meaning definitions.now steps) (shown scope.now) (shown_parent parent.entry) value.now (shown_tree tree.now)) }
+    ensures { IfOk result (λ answer. (m : ℕ) → known answer ≡ single_holds (meaning names.now.definitions.now (steps + m)) (shown scope.now) (shown_parent parent.entry) value.now (shown_tree tree.now)) }
 {
     let place = value_place(alloc, parent)?;
-    let answer = single_holds_under(
-        alloc,
-        definitions,
-        steps,
-        scope,
-        parent,
-        value,
-        &place,
-        tree,
-    )?;
+    let answer = single_holds_under(alloc, names, steps, scope, parent, value, &place, tree)?;
     Ok(answer)
 }
 
@@ -172,13 +165,30 @@ fn number_asked(alloc: Global, parent: Parent<'_, '_, '_>, tree: &Tree) -> Mem<O
     }
 }
 
-/// Whether a range holds of a tree: it holds of the numbers between its ends (X.680 51.4).
+/// Whether a number lies on the side of an end that a range has, once the numbers of that side are known.
 ///
 /// Err: want of memory.
-#[tactic(auto, using(crate::proofs::Singling::out_of_range, crate::proofs::Singling::range_lost, crate::proofs::Singling::range_known))]
+#[tactic(auto, using(crate::proofs::Singling::side_known))]
+fn side_holds(alloc: Global, side: Option<Numbers>, number: i128) -> Mem<Answer>
+    ensures { IfOk result (λ answer. known answer ≡ side_holds (option_map shown_numbers side) number) }
+{
+    match side {
+        None => Ok(Answer::Unknown),
+        Some(set) => {
+            let has = set.has(alloc, number)?;
+            Ok(Answer::of(has))
+        }
+    }
+}
+
+/// Whether a range holds of a tree: it holds of the numbers from its lower end on and up to its upper one (X.680 51.4). Each end is
+/// asked alone, so a number beyond one of them is out of the range, whatever the other is.
+///
+/// Err: want of memory, also where the steps are used up.
+#[tactic(auto, using(crate::proofs::Singling::out_of_range, crate::proofs::Singling::between_ends))]
 pub fn range_holds<'a>(
     alloc: Global,
-    definitions: &'a [ToplevelDefinition],
+    names: &Names<'a>,
     steps: usize,
     scope: &Scope<'a>,
     parent: Parent<'_, '_, 'a>,
@@ -188,28 +198,16 @@ pub fn range_holds<'a>(
     high_open: bool,
     tree: &Tree,
 ) -> Mem<Answer>
-    ensures { IfOk result (λ answer. known answer ≡ range_holds (range (meaning definitions.now steps) (shown scope.now) (shown_parent parent.entry) (option_copied low.entry) (option_copied high.entry) low_open high_open) (number_asked (shown_parent parent.entry) (shown_tree tree.now))) }
+    ensures { IfOk result (λ answer. (m : ℕ) → known answer ≡ range_holds (from_low (meaning names.now.definitions.now (steps + m)) (shown scope.now) (shown_parent parent.entry) low_open (option_copied low.entry)) (up_to_high (meaning names.now.definitions.now (steps + m)) (shown scope.now) (shown_parent parent.entry) high_open (option_copied high.entry)) (number_asked (shown_parent parent.entry) (shown_tree tree.now))) }
 {
     match number_asked(alloc, parent, tree)? {
         None => Ok(Answer::No),
         Some(number) => {
-            match range(
-                alloc,
-                definitions,
-                steps,
-                scope,
-                parent,
-                low,
-                high,
-                low_open,
-                high_open,
-            )? {
-                None => Ok(Answer::Unknown),
-                Some(set) => {
-                    let has = set.has(alloc, number)?;
-                    Ok(Answer::of(has))
-                }
-            }
+            let from = from_low(alloc, names, steps, scope, parent, low_open, low)?;
+            let above = side_holds(alloc, from, number)?;
+            let to = up_to_high(alloc, names, steps, scope, parent, high_open, high)?;
+            let below = side_holds(alloc, to, number)?;
+            Ok(above.and(below))
         }
     }
 }

@@ -6,3 +6,4 @@ pub mod Elements
 pub mod Narrowing
 pub mod Placing
 pub mod Ranking
+pub mod Passed

@@ -1,12 +1,12 @@
 -- The whole numbers that constraints and types leave, within a number of steps.
-use Rattle.std.proofs.Common.{◌≡◌, ℕ, ◌+◌, ◌-◌, ◌<◌, ◌≤◌, zero, suc, Bool, true, false, if◌then◌else◌, List, [], ◌∷◌, ◌++◌, drop, length, get_or, Option, Some, None, refl, sym, ap, ◌∙◌, arith}
+use Rattle.std.proofs.Common.{◌≡◌, ℕ, ◌+◌, ◌-◌, ◌<◌, ◌≤◌, suc, Bool, true, false, if◌then◌else◌, List, [], ◌∷◌, ◌++◌, drop, length, get_or, Option, Some, None, refl, sym, ap, ◌∙◌, arith}
 use Rattle.std.proofs.lemmas.List.{drop_more, drop_all}
 use Rattle.asn_tree.specs.declared.constraints.Constraint.{Constraint, out-Constraint}
 use Rattle.asn_tree.specs.declared.constraints.Constraint.TheVariants as constraint
 use Rattle.asn_tree.specs.declared.constraints.ElementOrSetOperation.{ElementOrSetOperation}
 use Rattle.asn_meaning.specs.Answers.{once}
 use Rattle.asn_meaning.specs.Definitions.{Definitions}
-use Rattle.asn_meaning.specs.Judge.{meaning, nothing_known, step}
+use Rattle.asn_meaning.specs.Judge.{meaning, step}
 use Rattle.asn_meaning.specs.Kinds.{kind_of}
 use Rattle.asn_meaning.specs.Meaning.{Meaning, Parent, ValuesOf}
 use Rattle.asn_meaning.specs.Names.{IsHead, LeadsTo, IsLost, lead}
@@ -19,17 +19,12 @@ use Rattle.asn_ranges.specs.inner.Joining.{numbers_of_element}
 
 -- ---- steps
 
-pub no_steps : (defs : Definitions) (n : ℕ) (p : Place) (cs : List Constraint) → n ≡ 0 → (meaning defs n).numbers p cs ≡ None
-unfolding meaning nothing_known
-no_steps defs zero p cs e = refl
-no_steps defs (suc n) p cs e = absurd (omega arith)
-
-numbers_suc : (defs : Definitions) (n m : ℕ) (p : Place) (cs : List Constraint) → n ≡ suc m → (meaning defs n).numbers p cs ≡ numbers_at defs (meaning defs m) p cs
+pub numbers_suc : (defs : Definitions) (n k : ℕ) (p : Place) (cs : List Constraint) → n ≡ suc k → (meaning defs n).numbers p cs ≡ numbers_at defs (meaning defs k) p cs
 unfolding meaning step
-numbers_suc defs n m p cs e = ap (λ k. (meaning defs k).numbers p cs) e
+numbers_suc defs n k p cs e = ap (λ i. (meaning defs i).numbers p cs) e
 
-pub more_steps : (defs : Definitions) (n : ℕ) (p : Place) (cs : List Constraint) → 0 < n → (meaning defs n).numbers p cs ≡ numbers_at defs (meaning defs (n - 1)) p cs
-more_steps defs n p cs lt = numbers_suc defs n (n - 1) p cs (omega arith)
+pub more_steps : (defs : Definitions) (n m : ℕ) (p : Place) (cs : List Constraint) → 0 < n → (meaning defs (n + m)).numbers p cs ≡ numbers_at defs (meaning defs (n - 1 + m)) p cs
+more_steps defs n m p cs lt = numbers_suc defs (n + m) (n - 1 + m) p cs (omega arith)
 
 -- ---- one constraint behind another
 
@@ -107,9 +102,6 @@ pub by_content : (M : Meaning) (scope : Scope) (head : Place) (numbers : Option 
 by_content M scope head numbers c x e is = layered M scope head numbers c e ∙ ap (narrowed_at M scope head numbers) (ap out-Constraint is ∙ constraint.outs-ContentConstraint x)
 
 -- ---- sets of elements
-
-pub chainless : (M : Meaning) (scope : Scope) (parent : Parent) (set : ElementOrSetOperation) → M.chain set ≡ None → numbers_in_set M scope parent set ≡ None
-chainless M scope parent set e = ap (λ c. once None c (ranked number_sets (numbers_of_element M scope parent))) e
 
 pub chained : (M : Meaning) (scope : Scope) (parent : Parent) (set : ElementOrSetOperation) (c : Chain) → M.chain set ≡ Some c →
     numbers_in_set M scope parent set ≡ ranked number_sets (numbers_of_element M scope parent) c

@@ -11,7 +11,7 @@ ghost use Rattle.asn_meaning.specs.Judge.{meaning};
 ghost use Rattle.asn_meaning.specs.Ranges.{end_denoted, number_denoted, number_of_tree, one_character, whole_number};
 ghost use Rattle.asn_meaning.specs.ValueTrees.{Characters};
 ghost use Rattle.std.specs.Option.{option_map};
-ghost use Rattle.std.specs.Prelude.{◌≡◌, IfOk};
+ghost use Rattle.std.specs.Prelude.{◌≡◌, IfOk, ℕ, ◌+◌};
 ghost use Rattle.std.specs.Str.{chars};
 
 use crate::making::{no_number, one_number};
@@ -19,9 +19,10 @@ use crate::parents::{Parent, integer_of, plain_text};
 use crate::sets::Numbers;
 use asn_denotes::{Denotation, denotes};
 use asn_heads::{Scope, ValueForm};
+use asn_index::Names;
 use asn_memory::{Mem, Text};
 use asn_shapes::{Tree, View};
-use asn_tree::{ASN1Value, ToplevelDefinition};
+use asn_tree::ASN1Value;
 use std::alloc::Global;
 
 /// The whole number of a tree; other trees stand for none.
@@ -135,24 +136,24 @@ fn one_character(alloc: Global, found: Denotation<Tree>) -> Mem<Denotation<i128>
 /// Err: want of memory.
 pub fn end_denoted<'a>(
     alloc: Global,
-    definitions: &'a [ToplevelDefinition],
+    names: &Names<'a>,
     steps: usize,
     scope: &Scope<'a>,
     parent: Parent<'_, '_, 'a>,
     value: &'a ASN1Value,
 ) -> Mem<Denotation<i128>>
-    ensures { IfOk result (λ end. shown_end end ≡ end_denoted (meaning definitions.now steps) (shown scope.now) (shown_parent parent.entry) value.now) }
+    ensures { IfOk result (λ end. (m : ℕ) → shown_end end ≡ end_denoted (meaning names.now.definitions.now (steps + m)) (shown scope.now) (shown_parent parent.entry) value.now) }
 {
     let value = ValueForm::Written(value);
     match parent {
         Parent::Values { head, .. } => {
             let place = integer_of(head.ty);
-            let found = denotes(alloc, definitions, steps, scope, value, &place)?;
+            let found = denotes(alloc, names, steps, scope, value, &place)?;
             Ok(whole_number(found))
         }
         Parent::Characters(_) => {
             let place = plain_text();
-            let found = denotes(alloc, definitions, steps, scope, value, &place)?;
+            let found = denotes(alloc, names, steps, scope, value, &place)?;
             let end = one_character(alloc, found)?;
             Ok(end)
         }

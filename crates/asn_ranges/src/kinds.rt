@@ -63,16 +63,6 @@ pub fn constraints_in<'a>(ty: TypeForm<'a>) -> &'a [Constraint]
     }
 }
 
-/// The constraints that come along behind a type; None stands for none.
-pub fn constraints_behind<'a>(constraints: Option<&'a List<Constraint>>) -> &'a [Constraint]
-    ensures { result.now ≡ listed (option_copied constraints.entry) }
-{
-    match constraints {
-        None => &[],
-        Some(constraints) => constraints.as_slice(),
-    }
-}
-
 /// Whether every constraint on a head counts as true: on REAL, NULL, EXTERNAL, EMBEDDED PDV and open types.
 pub fn is_free(ty: TypeForm<'_>) -> bool
     ensures { result ≡ is_free_kind (kind_of_type (shown_type ty.entry)) }

@@ -1,4 +1,4 @@
-//! Sets of whole numbers, once they are known: None where the steps do not reach.
+//! Sets of whole numbers, once they are known: None where a name leads nowhere.
 
 ghost use Rattle.asn_ranges.specs.Sets.{shown_numbers};
 ghost use Rattle.asn_meaning.specs.Numbers.{in_both, in_either, in_first, lifted};

@@ -5,11 +5,10 @@ ghost use Rattle.asn_meaning.specs.Constraints.{chain_behind};
 ghost use Rattle.asn_meaning.specs.Definitions.{Definitions};
 ghost use Rattle.asn_meaning.specs.Judge.{meaning};
 ghost use Rattle.asn_tree.specs.declared.constraints.SetOperation.{out-SetOperation};
-ghost use Rattle.std.specs.Option.{option_map};
-ghost use Rattle.std.specs.Prelude.{◌≡◌, IfOk};
+ghost use Rattle.std.specs.Prelude.{◌≡◌, IfOk, Some, ℕ, ◌+◌};
 
 use crate::chains::{Chain, Joined};
-use asn_memory::{List, Mem};
+use asn_memory::{List, Mem, OutOfMemory};
 use asn_tree::{ElementOrSetOperation, SetOperation};
 use std::alloc::Global;
 
@@ -36,31 +35,23 @@ fn chain_behind<'a>(alloc: Global, operation: &'a SetOperation, behind: Chain<'a
 
 /// The elements of a set in order, within a number of steps; in the tree they group to the right.
 ///
-/// None: the steps do not reach. Err: want of memory.
-#[tactic(auto, using(crate::proofs::Chaining::no_steps, crate::proofs::Chaining::one_element, crate::proofs::Chaining::chain_lost, crate::proofs::Chaining::chain_found))]
-pub fn chain<'a>(
-    alloc: Global,
-    steps: usize,
-    set: &'a ElementOrSetOperation,
-) -> Mem<Option<Chain<'a>>>
-    ensures { (defs : Definitions) → IfOk result (λ found. option_map shown_chain found ≡ (meaning defs steps).chain set.now) }
+/// Err: want of memory, also where the steps are used up.
+#[tactic(auto, using(crate::proofs::Chaining::one_element, crate::proofs::Chaining::more_elements))]
+pub fn chain<'a>(alloc: Global, steps: usize, set: &'a ElementOrSetOperation) -> Mem<Chain<'a>>
+    ensures { (defs : Definitions) → IfOk result (λ found. (m : ℕ) → Some (shown_chain found) ≡ (meaning defs (steps + m)).chain set.now) }
 {
     if steps == 0 {
-        return Ok(None);
+        return Err(OutOfMemory);
     }
     match set {
-        ElementOrSetOperation::Element(element) => Ok(Some(Chain {
+        ElementOrSetOperation::Element(element) => Ok(Chain {
             first: element,
             others: List::new(alloc),
-        })),
+        }),
         ElementOrSetOperation::SetOperation(operation) => {
-            match chain(alloc, steps - 1, operation.operant.get())? {
-                None => Ok(None),
-                Some(behind) => {
-                    let found = chain_behind(alloc, operation, behind)?;
-                    Ok(Some(found))
-                }
-            }
+            let behind = chain(alloc, steps - 1, operation.operant.get())?;
+            let found = chain_behind(alloc, operation, behind)?;
+            Ok(found)
         }
     }
 }

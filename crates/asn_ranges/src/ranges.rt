@@ -9,7 +9,7 @@ ghost use Rattle.asn_meaning.specs.Judge.{meaning};
 ghost use Rattle.asn_meaning.specs.Numbers.{above_least, below_greatest, numbers_from, numbers_to};
 ghost use Rattle.asn_meaning.specs.Ranges.{beside, from_low, number_of_single, numbers_of, parent_end, range, up_to_high};
 ghost use Rattle.std.specs.Option.{option_copied, option_map};
-ghost use Rattle.std.specs.Prelude.{◌≡◌, IfOk, true};
+ghost use Rattle.std.specs.Prelude.{◌≡◌, IfOk, true, ℕ, ◌+◌};
 
 use crate::ends::{end_denoted, number_denoted};
 use crate::known::both_known;
@@ -20,9 +20,10 @@ use crate::parents::{Parent, numbers_of};
 use crate::sets::Numbers;
 use asn_denotes::{Denotation, denotes, is_all};
 use asn_heads::{Place, Scope, ValueForm};
+use asn_index::Names;
 use asn_memory::Mem;
 use asn_shapes::Answer;
-use asn_tree::{ASN1Value, ToplevelDefinition};
+use asn_tree::ASN1Value;
 use std::alloc::Global;
 
 /// The numbers from a lower end on; there are none where it denotes none.
@@ -107,19 +108,19 @@ fn up_to_greatest(alloc: Global, parent: Parent<'_, '_, '_>, is_open: bool) -> M
     }
 }
 
-/// The numbers from a range's lower end on; None is MIN.
+/// The numbers from a range's lower end on; None is MIN (X.680 51.4.2).
 ///
-/// Err: want of memory.
-fn from_low<'a>(
+/// None: it is not known which, however many steps there are. Err: want of memory, also where the steps are used up.
+pub fn from_low<'a>(
     alloc: Global,
-    definitions: &'a [ToplevelDefinition],
+    names: &Names<'a>,
     steps: usize,
     scope: &Scope<'a>,
     parent: Parent<'_, '_, 'a>,
     is_open: bool,
     low: Option<&'a ASN1Value>,
 ) -> Mem<Option<Numbers>>
-    ensures { IfOk result (λ found. option_map shown_numbers found ≡ from_low (meaning definitions.now steps) (shown scope.now) (shown_parent parent.entry) is_open (option_copied low.entry)) }
+    ensures { IfOk result (λ found. (m : ℕ) → option_map shown_numbers found ≡ from_low (meaning names.now.definitions.now (steps + m)) (shown scope.now) (shown_parent parent.entry) is_open (option_copied low.entry)) }
 {
     match low {
         None => {
@@ -127,25 +128,25 @@ fn from_low<'a>(
             Ok(found)
         }
         Some(value) => {
-            let end = end_denoted(alloc, definitions, steps, scope, parent, value)?;
+            let end = end_denoted(alloc, names, steps, scope, parent, value)?;
             Ok(beside_low(is_open, end))
         }
     }
 }
 
-/// The numbers up to a range's upper end; None is MAX.
+/// The numbers up to a range's upper end; None is MAX (X.680 51.4.2).
 ///
-/// Err: want of memory.
-fn up_to_high<'a>(
+/// None: it is not known which, however many steps there are. Err: want of memory, also where the steps are used up.
+pub fn up_to_high<'a>(
     alloc: Global,
-    definitions: &'a [ToplevelDefinition],
+    names: &Names<'a>,
     steps: usize,
     scope: &Scope<'a>,
     parent: Parent<'_, '_, 'a>,
     is_open: bool,
     high: Option<&'a ASN1Value>,
 ) -> Mem<Option<Numbers>>
-    ensures { IfOk result (λ found. option_map shown_numbers found ≡ up_to_high (meaning definitions.now steps) (shown scope.now) (shown_parent parent.entry) is_open (option_copied high.entry)) }
+    ensures { IfOk result (λ found. (m : ℕ) → option_map shown_numbers found ≡ up_to_high (meaning names.now.definitions.now (steps + m)) (shown scope.now) (shown_parent parent.entry) is_open (option_copied high.entry)) }
 {
     match high {
         None => {
@@ -153,7 +154,7 @@ fn up_to_high<'a>(
             Ok(found)
         }
         Some(value) => {
-            let end = end_denoted(alloc, definitions, steps, scope, parent, value)?;
+            let end = end_denoted(alloc, names, steps, scope, parent, value)?;
             Ok(beside_high(is_open, end))
         }
     }
@@ -162,10 +163,10 @@ fn up_to_high<'a>(
 /// The numbers of a range: those between its ends, an open end left out; None is MIN or MAX, the parent's end
 /// (X.680 51.4.2).
 ///
-/// None: the steps do not reach. Err: want of memory.
+/// None: a name leads nowhere, however many steps there are. Err: want of memory, also where the steps are used up.
 pub fn range<'a>(
     alloc: Global,
-    definitions: &'a [ToplevelDefinition],
+    names: &Names<'a>,
     steps: usize,
     scope: &Scope<'a>,
     parent: Parent<'_, '_, 'a>,
@@ -174,32 +175,32 @@ pub fn range<'a>(
     low_open: bool,
     high_open: bool,
 ) -> Mem<Option<Numbers>>
-    ensures { IfOk result (λ found. option_map shown_numbers found ≡ range (meaning definitions.now steps) (shown scope.now) (shown_parent parent.entry) (option_copied low.entry) (option_copied high.entry) low_open high_open) }
+    ensures { IfOk result (λ found. (m : ℕ) → option_map shown_numbers found ≡ range (meaning names.now.definitions.now (steps + m)) (shown scope.now) (shown_parent parent.entry) (option_copied low.entry) (option_copied high.entry) low_open high_open) }
 {
-    let from = from_low(alloc, definitions, steps, scope, parent, low_open, low)?;
-    let to = up_to_high(alloc, definitions, steps, scope, parent, high_open, high)?;
+    let from = from_low(alloc, names, steps, scope, parent, low_open, low)?;
+    let to = up_to_high(alloc, names, steps, scope, parent, high_open, high)?;
     let found = both_known(alloc, from, to)?;
     Ok(found)
 }
 
 /// The number of a single value; ALL leaves every number (X.680 51.2).
 ///
-/// None: the steps do not reach. Err: want of memory.
+/// None: a name leads nowhere, however many steps there are. Err: want of memory, also where the steps are used up.
 pub fn number_of_single<'a>(
     alloc: Global,
-    definitions: &'a [ToplevelDefinition],
+    names: &Names<'a>,
     steps: usize,
     scope: &Scope<'a>,
     place: &Place<'a>,
     value: &'a ASN1Value,
 ) -> Mem<Option<Numbers>>
-    ensures { IfOk result (λ found. option_map shown_numbers found ≡ number_of_single (meaning definitions.now steps) (shown scope.now) (shown_place place.now) value.now) }
+    ensures { IfOk result (λ found. (m : ℕ) → option_map shown_numbers found ≡ number_of_single (meaning names.now.definitions.now (steps + m)) (shown scope.now) (shown_place place.now) value.now) }
 {
     let value = ValueForm::Written(value);
-    match is_all(alloc, definitions, steps, scope, value, place)? {
+    match is_all(alloc, names, steps, scope, value, place)? {
         Answer::Yes => Ok(Some(every_number())),
         Answer::No => {
-            let found = denotes(alloc, definitions, steps, scope, value, place)?;
+            let found = denotes(alloc, names, steps, scope, value, place)?;
             Ok(number_denoted(found))
         }
         Answer::Unknown => Ok(None),

@@ -1,5 +1,5 @@
 -- Shapes part by part, and within a number of steps.
-use Rattle.std.proofs.Common.{◌≡◌, ℕ, ◌+◌, ◌-◌, ◌<◌, ◌≤◌, zero, suc, List, ◌∷◌, drop, length, get_or, Bool, Option, Some, None, refl, sym, ap, ◌∙◌, arith}
+use Rattle.std.proofs.Common.{◌≡◌, ℕ, ◌+◌, ◌-◌, ◌<◌, ◌≤◌, suc, List, ◌∷◌, drop, length, get_or, Bool, Option, Some, None, refl, sym, ap, ◌∙◌, arith}
 use Rattle.std.specs.Option.{option_map}
 use Rattle.std.proofs.lemmas.List.{drop_more, drop_all}
 use Rattle.asn_tree.specs.declared.types.ChoiceOption.{ChoiceOption}
@@ -10,7 +10,7 @@ use Rattle.asn_shapes.specs.Parts.{alternative_in, elements_in, fields_in}
 use Rattle.asn_shapes.specs.Trees.{Named, shown_tree, shown_trees}
 use Rattle.asn_meaning.specs.Answers.{Answer, Yes, No, Unknown, answer_of, both, each, once}
 use Rattle.asn_meaning.specs.Definitions.{Definitions}
-use Rattle.asn_meaning.specs.Judge.{meaning, nothing_known, step}
+use Rattle.asn_meaning.specs.Judge.{meaning, step}
 use Rattle.asn_meaning.specs.Kinds.{kind_of}
 use Rattle.asn_meaning.specs.Layers.{OptionLayer}
 use Rattle.asn_meaning.specs.Meaning.{Meaning, Member}
@@ -21,17 +21,12 @@ use Rattle.asn_meaning.specs.ValueTrees.{ValueTree, NullValue, TruthValue, Whole
 
 -- ---- steps
 
-pub fits_at_zero : (defs : Definitions) (n : ℕ) (p : Place) (t : ValueTree) → n ≡ 0 → (meaning defs n).fits p t ≡ Unknown
-unfolding meaning nothing_known
-fits_at_zero defs zero p t e = refl
-fits_at_zero defs (suc n) p t e = absurd (omega arith)
-
-fits_at_suc : (defs : Definitions) (n m : ℕ) (p : Place) (t : ValueTree) → n ≡ suc m → (meaning defs n).fits p t ≡ fits_at (meaning defs m) p t
+fits_at_suc : (defs : Definitions) (n k : ℕ) (p : Place) (t : ValueTree) → n ≡ suc k → (meaning defs n).fits p t ≡ fits_at (meaning defs k) p t
 unfolding meaning step
-fits_at_suc defs n m p t e = ap (λ k. (meaning defs k).fits p t) e
+fits_at_suc defs n k p t more = ap (λ i. (meaning defs i).fits p t) more
 
-pub fits_at_more : (defs : Definitions) (n : ℕ) (p : Place) (t : ValueTree) → 0 < n → (meaning defs n).fits p t ≡ fits_at (meaning defs (n - 1)) p t
-fits_at_more defs n p t lt = fits_at_suc defs n (n - 1) p t (omega arith)
+pub fits_at_more : (defs : Definitions) (n m : ℕ) (p : Place) (t : ValueTree) → 0 < n → (meaning defs (n + m)).fits p t ≡ fits_at (meaning defs (n - 1 + m)) p t
+fits_at_more defs n m p t lt = fits_at_suc defs (n + m) (n - 1 + m) p t (omega arith)
 
 -- ---- heads
 

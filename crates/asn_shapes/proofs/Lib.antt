@@ -3,3 +3,4 @@ pub mod Membering
 pub mod Shaping
 pub mod Putting
 pub mod Judging
+pub mod Naming

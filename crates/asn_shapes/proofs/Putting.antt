@@ -1,5 +1,5 @@
 -- Members put together, one by one, and members within a number of steps.
-use Rattle.std.proofs.Common.{◌≡◌, ℕ, ◌+◌, ◌-◌, ◌<◌, ◌≤◌, zero, suc, List, [], ◌∷◌, ◌++◌, map, drop, length, get_or, Bool, true, false, if◌then◌else◌, Option, Some, None, refl, sym, ap, ◌∙◌, arith}
+use Rattle.std.proofs.Common.{◌≡◌, ℕ, ◌+◌, ◌-◌, ◌<◌, ◌≤◌, suc, List, [], ◌∷◌, ◌++◌, map, drop, length, get_or, Bool, true, false, if◌then◌else◌, Option, Some, None, refl, sym, ap, ◌∙◌, arith}
 use Rattle.std.specs.Prelude.{nat_eq, not}
 use Rattle.std.proofs.lemmas.List.{drop_more, drop_all}
 use Rattle.asn_tree.specs.declared.types.SequenceOrSetMember.{SequenceOrSetMember}
@@ -7,7 +7,7 @@ use Rattle.asn_shapes.specs.declared.members.Member.{Member as LentMember}
 use Rattle.asn_shapes.specs.Members.{shown_member, shown_members}
 use Rattle.asn_meaning.specs.Answers.{once}
 use Rattle.asn_meaning.specs.Definitions.{Definitions}
-use Rattle.asn_meaning.specs.Judge.{meaning, nothing_known, step}
+use Rattle.asn_meaning.specs.Judge.{meaning, step}
 use Rattle.asn_meaning.specs.Layers.{StructLayer}
 use Rattle.asn_meaning.specs.Meaning.{Meaning, Member}
 use Rattle.asn_meaning.specs.Members.{and_then, components_of, members_at, members_from, members_of, moved, put_in, root_members, written_member}
@@ -192,14 +192,10 @@ components_found M scope among name h ms e f =
 
 -- ---- steps
 
-pub members_at_zero : (defs : Definitions) (n : ℕ) (scope : Scope) (x : StructLayer) → n ≡ 0 → (meaning defs n).members scope x ≡ None
-unfolding meaning nothing_known
-members_at_zero defs zero scope x e = refl
-members_at_zero defs (suc n) scope x e = absurd (omega arith)
-
-members_at_suc : (defs : Definitions) (n m : ℕ) (scope : Scope) (x : StructLayer) → n ≡ suc m → (meaning defs n).members scope x ≡ members_at (meaning defs m) scope x
+members_at_suc : (defs : Definitions) (n k : ℕ) (scope : Scope) (x : StructLayer) → n ≡ suc k → (meaning defs n).members scope x ≡ members_at (meaning defs k) scope x
 unfolding meaning step
-members_at_suc defs n m scope x e = ap (λ k. (meaning defs k).members scope x) e
+members_at_suc defs n k scope x more = ap (λ i. (meaning defs i).members scope x) more
 
-pub members_at_more : (defs : Definitions) (n : ℕ) (scope : Scope) (x : StructLayer) → 0 < n → (meaning defs n).members scope x ≡ members_at (meaning defs (n - 1)) scope x
-members_at_more defs n scope x lt = members_at_suc defs n (n - 1) scope x (omega arith)
+pub members_at_more : (defs : Definitions) (n m : ℕ) (scope : Scope) (x : StructLayer) → 0 < n →
+    (meaning defs (n + m)).members scope x ≡ members_at (meaning defs (n - 1 + m)) scope x
+members_at_more defs n m scope x lt = members_at_suc defs (n + m) (n - 1 + m) scope x (omega arith)

@@ -2,4 +2,5 @@ pub mod Answers
 pub mod Trees
 pub mod Members
 pub mod Parts
+pub mod ByName
 pub mod inner

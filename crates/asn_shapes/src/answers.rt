@@ -1,4 +1,4 @@
-//! What is known within a number of steps: yes, no, or unknown.
+//! What is known: yes, no, or unknown.
 
 ghost use Rattle.asn_shapes.specs.Answers.{known};
 ghost use Rattle.asn_meaning.specs.Answers.{answer_of, both, denied, either};
@@ -9,7 +9,7 @@ ghost use Rattle.std.specs.Prelude.{◌≡◌};
 pub enum Answer {
     Yes,
     No,
-    /// The steps do not reach, or a name leads nowhere.
+    /// A name leads nowhere, or to what is of another kind, however many steps there are.
     Unknown,
 }
 

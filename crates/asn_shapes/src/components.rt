@@ -7,12 +7,13 @@ ghost use Rattle.asn_meaning.specs.Judge.{meaning};
 ghost use Rattle.asn_meaning.specs.Members.{components_of, is_addition_at, members_at, members_of, moved, put_in, root_members, written_member};
 ghost use Rattle.asn_tree.specs.declared.types.SequenceOrSet.{out-SequenceOrSet};
 ghost use Rattle.std.specs.Option.{option_map};
-ghost use Rattle.std.specs.Prelude.{◌≡◌, ◌<◌, ◌++◌, ◌∷◌, [], get_or, if◌then◌else◌, length, nat_eq, IfOk, Some, map};
+ghost use Rattle.std.specs.Prelude.{◌≡◌, ◌<◌, ◌+◌, ◌++◌, ◌∷◌, [], ℕ, get_or, if◌then◌else◌, length, nat_eq, IfOk, Some, map};
 
 use crate::members::Member;
 use asn_heads::{Kind, Place, Scope, head_named, kind_of};
-use asn_memory::{List, Mem, Text};
-use asn_tree::{SequenceOrSet, SequenceOrSetMember, ToplevelDefinition};
+use asn_index::Names;
+use asn_memory::{List, Mem, OutOfMemory, Text};
+use asn_tree::{SequenceOrSet, SequenceOrSetMember};
 use std::alloc::Global;
 
 /// The members with one more at the end.
@@ -101,25 +102,26 @@ fn moved_roots<'a>(alloc: Global, among: bool, members: &[Member<'a>]) -> Mem<Li
     Ok(roots)
 }
 
-/// The members of a SEQUENCE or SET within a number of steps: the written ones, with the root members of each COMPONENTS OF
-/// at its place (X.680 25.5).
+/// The members of a SEQUENCE or SET: the written ones, with the root members of each COMPONENTS OF at its place (X.680 25.5).
+/// They are found within these steps, and stay the same within more.
 ///
-/// None: the steps do not reach, or a name leads nowhere or to a type of another kind. Err: want of memory.
+/// None: a name leads nowhere, or to a type of another kind, however many steps there are. Err: want of memory, also where the
+/// steps are used up.
 #[cycle(membering)]
-#[tactic(auto, using(crate::proofs::Putting::members_at_zero, crate::proofs::Putting::members_at_more))]
+#[tactic(auto, using(crate::proofs::Putting::members_at_more))]
 pub fn struct_members<'a>(
     alloc: Global,
-    definitions: &'a [ToplevelDefinition],
+    names: &Names<'a>,
     steps: usize,
     scope: &Scope<'a>,
     layer: &'a SequenceOrSet,
 ) -> Mem<Option<List<Member<'a>>>>
-    ensures { IfOk result (λ found. option_map shown_members found ≡ (meaning definitions.now steps).members (shown scope.now) (out-SequenceOrSet layer.now)) }
+    ensures { IfOk result (λ found. (m : ℕ) → option_map shown_members found ≡ (meaning names.now.definitions.now (steps + m)).members (shown scope.now) (out-SequenceOrSet layer.now)) }
 {
     if steps == 0 {
-        return Ok(None);
+        return Err(OutOfMemory);
     }
-    let found = members_at(alloc, definitions, steps - 1, scope, layer)?;
+    let found = members_at(alloc, names, steps - 1, scope, layer)?;
     Ok(found)
 }
 
@@ -128,16 +130,16 @@ pub fn struct_members<'a>(
 #[tactic(auto, using(crate::proofs::Putting::members_begin, crate::proofs::Putting::member_lost, crate::proofs::Putting::member_next, crate::proofs::Putting::members_lost, crate::proofs::Putting::members_done))]
 fn members_at<'a>(
     alloc: Global,
-    definitions: &'a [ToplevelDefinition],
+    names: &Names<'a>,
     steps: usize,
     scope: &Scope<'a>,
     layer: &'a SequenceOrSet,
 ) -> Mem<Option<List<Member<'a>>>>
-    ensures { IfOk result (λ found. option_map shown_members found ≡ members_at (meaning definitions.now steps) (shown scope.now) (out-SequenceOrSet layer.now)) }
+    ensures { IfOk result (λ found. (m : ℕ) → option_map shown_members found ≡ members_at (meaning names.now.definitions.now (steps + m)) (shown scope.now) (out-SequenceOrSet layer.now)) }
 {
     let mut members = List::new(alloc);
     for number in 0..layer.members.len() {
-        match put_in(alloc, definitions, steps, scope, layer, number)? {
+        match put_in(alloc, names, steps, scope, layer, number)? {
             None => return Ok(None),
             Some(others) => {
                 members = joined(members, others)?;
@@ -147,7 +149,7 @@ fn members_at<'a>(
             }
         }
     }
-    match put_in(alloc, definitions, steps, scope, layer, layer.members.len())? {
+    match put_in(alloc, names, steps, scope, layer, layer.members.len())? {
         None => Ok(None),
         Some(others) => {
             let all = joined(members, others)?;
@@ -169,23 +171,23 @@ fn place_at(places: &[(usize, bool)], number: usize) -> (usize, bool)
 #[tactic(auto, using(crate::proofs::Putting::put_begin, crate::proofs::Putting::put_lost, crate::proofs::Putting::put_next, crate::proofs::Putting::put_done))]
 fn put_in<'a>(
     alloc: Global,
-    definitions: &'a [ToplevelDefinition],
+    names: &Names<'a>,
     steps: usize,
     scope: &Scope<'a>,
     layer: &'a SequenceOrSet,
     number: usize,
 ) -> Mem<Option<List<Member<'a>>>>
-    ensures { IfOk result (λ found. option_map shown_members found ≡ put_in (meaning definitions.now steps) (shown scope.now) number (out-SequenceOrSet layer.now).components_of (out-SequenceOrSet layer.now).components_at) }
+    ensures { IfOk result (λ found. (m : ℕ) → option_map shown_members found ≡ put_in (meaning names.now.definitions.now (steps + m)) (shown scope.now) number (out-SequenceOrSet layer.now).components_of (out-SequenceOrSet layer.now).components_at) }
 {
-    let names = layer.components_of.as_slice();
+    let included = layer.components_of.as_slice();
     let places = layer.components_at.as_slice();
     let mut members = List::new(alloc);
-    for i in 0..names.len() {
+    for i in 0..included.len() {
         if i >= places.len() {
             return Ok(Some(members));
         }
         let at = place_at(places, i);
-        match put_at(alloc, definitions, steps, scope, &names[i], at, number)? {
+        match put_at(alloc, names, steps, scope, &included[i], at, number)? {
             None => return Ok(None),
             Some(others) => {
                 let all = joined(members, others)?;
@@ -200,17 +202,17 @@ fn put_in<'a>(
 #[cycle(membering)]
 fn put_at<'a>(
     alloc: Global,
-    definitions: &'a [ToplevelDefinition],
+    names: &Names<'a>,
     steps: usize,
     scope: &Scope<'a>,
     name: &'a Text,
     at: (usize, bool),
     number: usize,
 ) -> Mem<Option<List<Member<'a>>>>
-    ensures { IfOk result (λ found. option_map shown_members found ≡ (if nat_eq at.0 number then components_of (meaning definitions.now steps) (shown scope.now) at.1 name.now else Some [])) }
+    ensures { IfOk result (λ found. (m : ℕ) → option_map shown_members found ≡ (if nat_eq at.0 number then components_of (meaning names.now.definitions.now (steps + m)) (shown scope.now) at.1 name.now else Some [])) }
 {
     if at.0 == number {
-        let found = components_of(alloc, definitions, steps, scope, at.1, name)?;
+        let found = components_of(alloc, names, steps, scope, at.1, name)?;
         Ok(found)
     } else {
         Ok(Some(List::new(alloc)))
@@ -223,17 +225,17 @@ fn put_at<'a>(
 #[tactic(auto, using(crate::proofs::Putting::components_headless, crate::proofs::Putting::components_of_none, crate::proofs::Putting::components_found))]
 fn components_of<'a>(
     alloc: Global,
-    definitions: &'a [ToplevelDefinition],
+    names: &Names<'a>,
     steps: usize,
     scope: &Scope<'a>,
     among: bool,
     name: &'a Text,
 ) -> Mem<Option<List<Member<'a>>>>
-    ensures { IfOk result (λ found. option_map shown_members found ≡ components_of (meaning definitions.now steps) (shown scope.now) among name.now) }
+    ensures { IfOk result (λ found. (m : ℕ) → option_map shown_members found ≡ components_of (meaning names.now.definitions.now (steps + m)) (shown scope.now) among name.now) }
 {
-    match head_named(alloc, definitions, steps, scope, name)? {
+    match head_named(alloc, names, steps, scope, name)? {
         None => Ok(None),
-        Some(head) => match members_of(alloc, definitions, steps, &head)? {
+        Some(head) => match members_of(alloc, names, steps, &head)? {
             None => Ok(None),
             Some(members) => {
                 let roots = moved_roots(alloc, among, members.as_slice())?;
@@ -243,21 +245,21 @@ fn components_of<'a>(
     }
 }
 
-/// The members of a head that is a SEQUENCE or SET, within a number of steps.
+/// The members of a head that is a SEQUENCE or SET.
 ///
-/// None: as `struct_members`, or a head of another kind. Err: want of memory.
+/// None and Err: as `struct_members`; None for a head of another kind too.
 #[cycle(membering)]
 pub fn members_of<'a>(
     alloc: Global,
-    definitions: &'a [ToplevelDefinition],
+    names: &Names<'a>,
     steps: usize,
     head: &Place<'a>,
 ) -> Mem<Option<List<Member<'a>>>>
-    ensures { IfOk result (λ found. option_map shown_members found ≡ members_of (meaning definitions.now steps) (shown_place head.now)) }
+    ensures { IfOk result (λ found. (m : ℕ) → option_map shown_members found ≡ members_of (meaning names.now.definitions.now (steps + m)) (shown_place head.now)) }
 {
     match kind_of(head.ty) {
         Kind::Struct(layer) => {
-            let found = struct_members(alloc, definitions, steps, &head.scope, layer)?;
+            let found = struct_members(alloc, names, steps, &head.scope, layer)?;
             Ok(found)
         }
         Kind::Null => Ok(None),

@@ -12,37 +12,39 @@ ghost use Rattle.asn_meaning.specs.Judge.{meaning};
 ghost use Rattle.asn_meaning.specs.Shapes.{choice_judged, fields_judged, fits_at, head_fits, list_judged, member_judged, parts_fit, struct_judged, trees_judged};
 ghost use Rattle.asn_meaning.specs.ValueTrees.{field_named};
 ghost use Rattle.asn_tree.specs.declared.types.SequenceOrSet.{out-SequenceOrSet};
-ghost use Rattle.std.specs.Prelude.{◌≡◌, IfOk};
+ghost use Rattle.std.specs.Prelude.{◌≡◌, IfOk, ℕ, ◌+◌};
 
 use crate::answers::Answer;
+use crate::by_name::{FieldsByName, MembersByName};
 use crate::components::struct_members;
 use crate::members::Member;
 use crate::parts::{alternative_of, elements_of, fields_of, is_of_kind};
-use crate::shapes::are_members;
-use crate::trees::{Field, Tree, find_field};
+use crate::trees::{Field, Tree};
 use asn_heads::{Kind, Place, Scope, TypeForm, head, kind_of, option_named};
-use asn_memory::Mem;
-use asn_tree::{ASN1Type, ChoiceOption, SequenceOrSet, ToplevelDefinition};
+use asn_index::Names;
+use asn_memory::{Mem, OutOfMemory};
+use asn_tree::{ASN1Type, ChoiceOption, SequenceOrSet};
 use std::alloc::Global;
 
-/// Whether a tree fits a type within a number of steps.
+/// Whether a tree fits a type. It is found within these steps, and stays the same within more.
 ///
-/// Unknown: the steps do not reach, or a name leads nowhere. Err: want of memory.
+/// Unknown: a name leads nowhere, or to a type of another kind, however many steps there are. Err: want of memory, also where
+/// the steps are used up.
 #[cycle(fitting)]
-#[tactic(auto, using(crate::proofs::Judging::fits_at_zero, crate::proofs::Judging::fits_at_more))]
+#[tactic(auto, using(crate::proofs::Judging::fits_at_more))]
 pub fn fits<'a>(
     alloc: Global,
-    definitions: &'a [ToplevelDefinition],
+    names: &Names<'a>,
     steps: usize,
     place: &Place<'a>,
     tree: &Tree,
 ) -> Mem<Answer>
-    ensures { IfOk result (λ answer. known answer ≡ (meaning definitions.now steps).fits (shown_place place.now) (shown_tree tree.now)) }
+    ensures { IfOk result (λ answer. (m : ℕ) → known answer ≡ (meaning names.now.definitions.now (steps + m)).fits (shown_place place.now) (shown_tree tree.now)) }
 {
     if steps == 0 {
-        return Ok(Answer::Unknown);
+        return Err(OutOfMemory);
     }
-    let answer = fits_at(alloc, definitions, steps - 1, place, tree)?;
+    let answer = fits_at(alloc, names, steps - 1, place, tree)?;
     Ok(answer)
 }
 
@@ -51,17 +53,17 @@ pub fn fits<'a>(
 #[tactic(auto, using(crate::proofs::Judging::headless, crate::proofs::Judging::headed))]
 fn fits_at<'a>(
     alloc: Global,
-    definitions: &'a [ToplevelDefinition],
+    names: &Names<'a>,
     steps: usize,
     place: &Place<'a>,
     tree: &Tree,
 ) -> Mem<Answer>
-    ensures { IfOk result (λ answer. known answer ≡ fits_at (meaning definitions.now steps) (shown_place place.now) (shown_tree tree.now)) }
+    ensures { IfOk result (λ answer. (m : ℕ) → known answer ≡ fits_at (meaning names.now.definitions.now (steps + m)) (shown_place place.now) (shown_tree tree.now)) }
 {
-    match head(alloc, definitions, steps, place)? {
+    match head(alloc, names, steps, place)? {
         None => Ok(Answer::Unknown),
         Some(found) => {
-            let answer = head_fits(alloc, definitions, steps, &found, tree)?;
+            let answer = head_fits(alloc, names, steps, &found, tree)?;
             Ok(answer)
         }
     }
@@ -72,18 +74,18 @@ fn fits_at<'a>(
 #[tactic(auto, using(crate::proofs::Judging::of_kind, crate::proofs::Judging::of_parts))]
 fn head_fits<'a>(
     alloc: Global,
-    definitions: &'a [ToplevelDefinition],
+    names: &Names<'a>,
     steps: usize,
     place: &Place<'a>,
     tree: &Tree,
 ) -> Mem<Answer>
-    ensures { IfOk result (λ answer. known answer ≡ head_fits (meaning definitions.now steps) (shown_tree tree.now) (shown_place place.now)) }
+    ensures { IfOk result (λ answer. (m : ℕ) → known answer ≡ head_fits (meaning names.now.definitions.now (steps + m)) (shown_tree tree.now) (shown_place place.now)) }
 {
     let kind = kind_of(place.ty);
     match is_of_kind(kind, tree) {
         Some(fits) => Ok(Answer::of(fits)),
         None => {
-            let answer = parts_fit(alloc, definitions, steps, &place.scope, kind, tree)?;
+            let answer = parts_fit(alloc, names, steps, &place.scope, kind, tree)?;
             Ok(answer)
         }
     }
@@ -93,26 +95,26 @@ fn head_fits<'a>(
 #[cycle(fitting)]
 fn parts_fit<'a>(
     alloc: Global,
-    definitions: &'a [ToplevelDefinition],
+    names: &Names<'a>,
     steps: usize,
     scope: &Scope<'a>,
     kind: Kind<'a>,
     tree: &Tree,
 ) -> Mem<Answer>
-    ensures { IfOk result (λ answer. known answer ≡ parts_fit (meaning definitions.now steps) (shown scope.now) (shown_tree tree.now) (shown_kind kind.entry)) }
+    ensures { IfOk result (λ answer. (m : ℕ) → known answer ≡ parts_fit (meaning names.now.definitions.now (steps + m)) (shown scope.now) (shown_tree tree.now) (shown_kind kind.entry)) }
 {
     match kind {
         Kind::Struct(layer) => {
-            let answer = struct_fits(alloc, definitions, steps, scope, layer, tree)?;
+            let answer = struct_fits(alloc, names, steps, scope, layer, tree)?;
             Ok(answer)
         }
         Kind::List(ty) => {
-            let answer = list_fits(alloc, definitions, steps, scope, ty, tree)?;
+            let answer = list_fits(alloc, names, steps, scope, ty, tree)?;
             Ok(answer)
         }
         Kind::Choice(options) => {
             let options = options.as_slice();
-            let answer = choice_fits(alloc, definitions, steps, scope, options, tree)?;
+            let answer = choice_fits(alloc, names, steps, scope, options, tree)?;
             Ok(answer)
         }
         Kind::Null => Ok(Answer::Unknown),
@@ -137,21 +139,21 @@ fn parts_fit<'a>(
 #[tactic(auto, using(crate::proofs::Judging::no_struct, crate::proofs::Judging::struct_unknown, crate::proofs::Judging::struct_known))]
 fn struct_fits<'a>(
     alloc: Global,
-    definitions: &'a [ToplevelDefinition],
+    names: &Names<'a>,
     steps: usize,
     scope: &Scope<'a>,
     layer: &'a SequenceOrSet,
     tree: &Tree,
 ) -> Mem<Answer>
-    ensures { IfOk result (λ answer. known answer ≡ struct_judged (member_fits (meaning definitions.now steps)) ((meaning definitions.now steps).members (shown scope.now) (out-SequenceOrSet layer.now)) (shown_tree tree.now)) }
+    ensures { IfOk result (λ answer. (m : ℕ) → known answer ≡ struct_judged (member_fits (meaning names.now.definitions.now (steps + m))) ((meaning names.now.definitions.now (steps + m)).members (shown scope.now) (out-SequenceOrSet layer.now)) (shown_tree tree.now)) }
 {
     match fields_of(tree) {
         None => Ok(Answer::No),
-        Some(fields) => match struct_members(alloc, definitions, steps, scope, layer)? {
+        Some(fields) => match struct_members(alloc, names, steps, scope, layer)? {
             None => Ok(Answer::Unknown),
             Some(members) => {
                 let members = members.as_slice();
-                let answer = fields_fit(alloc, definitions, steps, members, fields)?;
+                let answer = fields_fit(alloc, names, steps, members, fields)?;
                 Ok(answer)
             }
         },
@@ -162,15 +164,17 @@ fn struct_fits<'a>(
 #[cycle(fitting)]
 fn fields_fit<'a>(
     alloc: Global,
-    definitions: &'a [ToplevelDefinition],
+    names: &Names<'a>,
     steps: usize,
     members: &[Member<'a>],
     fields: &[Field],
 ) -> Mem<Answer>
-    ensures { IfOk result (λ answer. known answer ≡ fields_judged (member_fits (meaning definitions.now steps)) (shown_fields fields.now) (shown_members members.now)) }
+    ensures { IfOk result (λ answer. (m : ℕ) → known answer ≡ fields_judged (member_fits (meaning names.now.definitions.now (steps + m))) (shown_fields fields.now) (shown_members members.now)) }
 {
-    let named = Answer::of(are_members(members, fields));
-    let answer = members_fit(alloc, definitions, steps, members, fields)?;
+    let members_by_name = MembersByName::new(alloc, members)?;
+    let named = Answer::of(members_by_name.has_members_for(fields));
+    let fields_by_name = FieldsByName::new(alloc, fields)?;
+    let answer = members_fit(alloc, names, steps, members, &fields_by_name)?;
     Ok(named.and(answer))
 }
 
@@ -179,16 +183,16 @@ fn fields_fit<'a>(
 #[tactic(auto, using(crate::proofs::Judging::member_next, crate::proofs::Judging::members_done))]
 fn members_fit<'a>(
     alloc: Global,
-    definitions: &'a [ToplevelDefinition],
+    names: &Names<'a>,
     steps: usize,
     members: &[Member<'a>],
-    fields: &[Field],
+    fields: &FieldsByName<'_>,
 ) -> Mem<Answer>
-    ensures { IfOk result (λ answer. known answer ≡ each (λ m. member_judged (member_fits (meaning definitions.now steps)) m (field_named (shown_fields fields.now) m.written.name)) (shown_members members.now)) }
+    ensures { IfOk result (λ answer. (m : ℕ) → known answer ≡ each (λ member. member_judged (member_fits (meaning names.now.definitions.now (steps + m))) member (field_named (shown_fields fields.now.fields.now) member.written.name)) (shown_members members.now)) }
 {
     let mut answer = Answer::Yes;
     for member in members {
-        let one = member_fits(alloc, definitions, steps, member, fields)?;
+        let one = member_fits(alloc, names, steps, member, fields)?;
         answer = answer.and(one);
     }
     Ok(answer)
@@ -198,18 +202,18 @@ fn members_fit<'a>(
 #[cycle(fitting)]
 fn member_fits<'a>(
     alloc: Global,
-    definitions: &'a [ToplevelDefinition],
+    names: &Names<'a>,
     steps: usize,
     member: &Member<'a>,
-    fields: &[Field],
+    fields: &FieldsByName<'_>,
 ) -> Mem<Answer>
-    ensures { IfOk result (λ answer. known answer ≡ member_judged (member_fits (meaning definitions.now steps)) (shown_member member.now) (field_named (shown_fields fields.now) (shown_member member.now).written.name)) }
+    ensures { IfOk result (λ answer. (m : ℕ) → known answer ≡ member_judged (member_fits (meaning names.now.definitions.now (steps + m))) (shown_member member.now) (field_named (shown_fields fields.now.fields.now) (shown_member member.now).written.name)) }
 {
-    match find_field(fields, member.written.name.as_str()) {
+    match fields.tree(member.written.name.as_str()) {
         None => Ok(Answer::of(member.may_be_absent())),
         Some(tree) => {
             let place = member.place(alloc)?;
-            let answer = fits(alloc, definitions, steps, &place, tree)?;
+            let answer = fits(alloc, names, steps, &place, tree)?;
             Ok(answer)
         }
     }
@@ -220,13 +224,13 @@ fn member_fits<'a>(
 #[tactic(auto, using(crate::proofs::Judging::no_list, crate::proofs::Judging::list_known))]
 fn list_fits<'a>(
     alloc: Global,
-    definitions: &'a [ToplevelDefinition],
+    names: &Names<'a>,
     steps: usize,
     scope: &Scope<'a>,
     ty: &'a ASN1Type,
     tree: &Tree,
 ) -> Mem<Answer>
-    ensures { IfOk result (λ answer. known answer ≡ list_judged (type_fits (meaning definitions.now steps) (shown scope.now) ty.now) (shown_tree tree.now)) }
+    ensures { IfOk result (λ answer. (m : ℕ) → known answer ≡ list_judged (type_fits (meaning names.now.definitions.now (steps + m)) (shown scope.now) ty.now) (shown_tree tree.now)) }
 {
     match elements_of(tree) {
         None => Ok(Answer::No),
@@ -236,7 +240,7 @@ fn list_fits<'a>(
                 scope,
                 ty: TypeForm::Written(ty),
             };
-            let answer = elements_fit(alloc, definitions, steps, &place, elements)?;
+            let answer = elements_fit(alloc, names, steps, &place, elements)?;
             Ok(answer)
         }
     }
@@ -247,16 +251,16 @@ fn list_fits<'a>(
 #[tactic(auto, using(crate::proofs::Judging::element_next, crate::proofs::Judging::elements_done))]
 fn elements_fit<'a>(
     alloc: Global,
-    definitions: &'a [ToplevelDefinition],
+    names: &Names<'a>,
     steps: usize,
     place: &Place<'a>,
     elements: &[Tree],
 ) -> Mem<Answer>
-    ensures { IfOk result (λ answer. known answer ≡ trees_judged ((meaning definitions.now steps).fits (shown_place place.now)) (shown_trees elements.now)) }
+    ensures { IfOk result (λ answer. (m : ℕ) → known answer ≡ trees_judged ((meaning names.now.definitions.now (steps + m)).fits (shown_place place.now)) (shown_trees elements.now)) }
 {
     let mut answer = Answer::Yes;
     for element in elements {
-        let one = fits(alloc, definitions, steps, place, element)?;
+        let one = fits(alloc, names, steps, place, element)?;
         answer = answer.and(one);
     }
     Ok(answer)
@@ -267,13 +271,13 @@ fn elements_fit<'a>(
 #[tactic(auto, using(crate::proofs::Judging::no_choice, crate::proofs::Judging::no_option, crate::proofs::Judging::option_known))]
 fn choice_fits<'a>(
     alloc: Global,
-    definitions: &'a [ToplevelDefinition],
+    names: &Names<'a>,
     steps: usize,
     scope: &Scope<'a>,
     options: &'a [ChoiceOption],
     tree: &Tree,
 ) -> Mem<Answer>
-    ensures { IfOk result (λ answer. known answer ≡ choice_judged (option_fits (meaning definitions.now steps) (shown scope.now)) options.now (shown_tree tree.now)) }
+    ensures { IfOk result (λ answer. (m : ℕ) → known answer ≡ choice_judged (option_fits (meaning names.now.definitions.now (steps + m)) (shown scope.now)) options.now (shown_tree tree.now)) }
 {
     match alternative_of(tree) {
         None => Ok(Answer::No),
@@ -285,7 +289,7 @@ fn choice_fits<'a>(
                     scope,
                     ty: TypeForm::Written(&option.ty),
                 };
-                let answer = fits(alloc, definitions, steps, &place, alternative.tree)?;
+                let answer = fits(alloc, names, steps, &place, alternative.tree)?;
                 Ok(answer)
             }
         },

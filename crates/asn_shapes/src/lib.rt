@@ -2,12 +2,15 @@
 //! members of a SEQUENCE or SET with those that COMPONENTS OF puts in, and which trees fit a type at every depth,
 //! constraints and character sets aside.
 //!
-//! What meaning knows within a number of steps, a call computes by `steps`, which counts down. It stands on asn_heads, which
-//! tells where names lead, borrows the trees, and copies no more than scopes. Each call is proved to give what its
-//! definition says, so that tests ask the definitions themselves.
+//! What meaning knows within a number of steps, a call computes by `steps`, which counts down. Where these are used up, it fails
+//! for want of memory, so that each answer is the one of all further steps, and None and Unknown mean lost for good.
+//!
+//! It stands on asn_heads, which tells where names lead, borrows the trees, and copies no more than scopes. Each call is proved
+//! to give what its definition says, so that tests ask the definitions themselves.
 #![tactic(auto)]
 
 mod answers;
+mod by_name;
 mod components;
 mod fitting;
 mod members;
@@ -16,6 +19,7 @@ mod shapes;
 mod trees;
 
 pub use answers::Answer;
+pub use by_name::{FieldsByName, MembersByName};
 pub use components::{members_of, struct_members};
 pub use fitting::fits;
 pub use members::{Member, member_named};

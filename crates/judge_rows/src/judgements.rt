@@ -3,12 +3,14 @@
 //! `Person has name, age?` tells the members, those that may be absent with a mark. `v = 5 = w: Digit yes, Upper fits, Flag no` tells that
 //! the value `v` denotes 5, that the value `w` before it denotes the same tree, and of each type definition without parameters whether
 //! it accepts the tree: `fits` where the tree has the type's shape, and a constraint or a character stands against it; `unknown` where
-//! the steps do not reach, or a name leads nowhere. A value may denote nothing, or it may be unknown what.
+//! a name leads nowhere, or the question wants memory, as where its steps are used up. A value may denote nothing, or it may be unknown
+//! what.
 
 use crate::sight::{STEPS, says_steps};
 use crate::trees::{either, write_tree};
 use asn_denotes::{Denotation, denotes};
 use asn_heads::{Place, Scope, TypeForm, ValueForm, head};
+use asn_index::Names;
 use asn_judge::{judge, same_tree};
 use asn_memory::{List, Mem, Text};
 use asn_shapes::{Answer, Member, Tree, fits, members_of};
@@ -65,28 +67,32 @@ fn write_names(out: &mut Text, members: &[Member<'_>]) -> Mem<()> {
     Ok(())
 }
 
-/// The members of a type, where its head has some.
+/// The members of a type, where its head has some, and that is found.
 fn members_in<'a>(
     alloc: Global,
-    definitions: &'a [ToplevelDefinition],
+    names: &Names<'a>,
     steps: usize,
     ty: &'a ASN1Type,
-) -> Mem<Option<List<Member<'a>>>> {
-    match head(alloc, definitions, steps, &place_of(ty))? {
-        None => Ok(None),
-        Some(head) => members_of(alloc, definitions, steps, &head),
+) -> Option<List<Member<'a>>> {
+    match head(alloc, names, steps, &place_of(ty)) {
+        Ok(Some(head)) => match members_of(alloc, names, steps, &head) {
+            Ok(members) => members,
+            Err(_) => None,
+        },
+        Ok(None) => None,
+        Err(_) => None,
     }
 }
 
 /// Writes the line of a type's members, where it has some.
-fn write_line_of_members(
+fn write_line_of_members<'a>(
     alloc: Global,
     out: &mut Text,
-    definitions: &[ToplevelDefinition],
+    names: &Names<'a>,
     steps: usize,
-    definition: &ToplevelTypeDefinition,
+    definition: &'a ToplevelTypeDefinition,
 ) -> Mem<()> {
-    match members_in(alloc, definitions, steps, &definition.ty)? {
+    match members_in(alloc, names, steps, &definition.ty) {
         None => Ok(()),
         Some(members) => {
             out.push_str(definition.name.as_str())?;
@@ -97,16 +103,17 @@ fn write_line_of_members(
 }
 
 /// Writes the lines of members.
-pub(crate) fn write_members(
+pub(crate) fn write_members<'a>(
     alloc: Global,
     out: &mut Text,
-    definitions: &[ToplevelDefinition],
+    definitions: &'a [ToplevelDefinition],
+    names: &Names<'a>,
     steps: usize,
 ) -> Mem<()> {
     for definition in definitions {
         match type_in(definition) {
             None => {}
-            Some(definition) => write_line_of_members(alloc, out, definitions, steps, definition)?,
+            Some(definition) => write_line_of_members(alloc, out, names, steps, definition)?,
         }
     }
     Ok(())
@@ -115,40 +122,43 @@ pub(crate) fn write_members(
 // ---- answers
 
 /// What is said of a tree that a type does not accept.
-fn rejected(
+fn rejected<'a>(
     alloc: Global,
-    definitions: &[ToplevelDefinition],
+    names: &Names<'a>,
     steps: usize,
-    ty: &ASN1Type,
+    ty: &'a ASN1Type,
     tree: &Tree,
-) -> Mem<&'static str> {
-    match fits(alloc, definitions, steps, &place_of(ty), tree)? {
-        Answer::Yes => Ok(" fits"),
-        Answer::No => Ok(" no"),
-        Answer::Unknown => Ok(" no"),
+) -> &'static str {
+    match fits(alloc, names, steps, &place_of(ty), tree) {
+        Ok(Answer::Yes) => " fits",
+        Ok(Answer::No) => " no",
+        Ok(Answer::Unknown) => " no",
+        Err(_) => " no",
     }
 }
 
 /// What a type says of a tree.
-fn answered(
+fn answered<'a>(
     alloc: Global,
-    definitions: &[ToplevelDefinition],
+    names: &Names<'a>,
     steps: usize,
-    ty: &ASN1Type,
+    ty: &'a ASN1Type,
     tree: &Tree,
-) -> Mem<&'static str> {
-    match judge(alloc, definitions, steps, ty, tree)? {
-        Answer::Yes => Ok(" yes"),
-        Answer::No => rejected(alloc, definitions, steps, ty, tree),
-        Answer::Unknown => Ok(" unknown"),
+) -> &'static str {
+    match judge(alloc, names, steps, ty, tree) {
+        Ok(Answer::Yes) => " yes",
+        Ok(Answer::No) => rejected(alloc, names, steps, ty, tree),
+        Ok(Answer::Unknown) => " unknown",
+        Err(_) => " unknown",
     }
 }
 
 /// Writes what each type says of a tree.
-fn write_answers(
+fn write_answers<'a>(
     alloc: Global,
     out: &mut Text,
-    definitions: &[ToplevelDefinition],
+    definitions: &'a [ToplevelDefinition],
+    names: &Names<'a>,
     steps: usize,
     tree: &Tree,
 ) -> Mem<()> {
@@ -159,7 +169,7 @@ fn write_answers(
             Some(definition) => {
                 out.push_str(either(first, ": ", ", "))?;
                 out.push_str(definition.name.as_str())?;
-                out.push_str(answered(alloc, definitions, steps, &definition.ty, tree)?)?;
+                out.push_str(answered(alloc, names, steps, &definition.ty, tree))?;
                 first = false;
             }
         }
@@ -169,40 +179,43 @@ fn write_answers(
 
 // ---- values
 
-/// What a value denotes under its governor.
-fn denoted(
+/// What a value denotes under its governor; nothing is known of it where the question wants memory.
+fn denoted<'a>(
     alloc: Global,
-    definitions: &[ToplevelDefinition],
-    definition: &ToplevelValueDefinition,
-) -> Mem<Denotation<Tree>> {
+    names: &Names<'a>,
+    definition: &'a ToplevelValueDefinition,
+) -> Denotation<Tree> {
     let value = ValueForm::Written(&definition.value);
     let place = place_of(&definition.associated_type);
-    denotes(alloc, definitions, STEPS, &Scope::Empty, value, &place)
+    match denotes(alloc, names, STEPS, &Scope::Empty, value, &place) {
+        Ok(found) => found,
+        Err(_) => Denotation::Unsure,
+    }
 }
 
 /// Whether a value denotes the tree.
-fn is_denoted(
+fn is_denoted<'a>(
     alloc: Global,
-    definitions: &[ToplevelDefinition],
-    definition: &ToplevelValueDefinition,
+    names: &Names<'a>,
+    definition: &'a ToplevelValueDefinition,
     tree: &Tree,
-) -> Mem<bool> {
-    match denoted(alloc, definitions, definition)? {
-        Denotation::Denoted(other) => Ok(same_tree(&other, tree)),
-        Denotation::Nothing => Ok(false),
-        Denotation::Unsure => Ok(false),
+) -> bool {
+    match denoted(alloc, names, definition) {
+        Denotation::Denoted(other) => same_tree(&other, tree),
+        Denotation::Nothing => false,
+        Denotation::Unsure => false,
     }
 }
 
 /// Writes a value's name where it denotes the tree.
-fn write_same(
+fn write_same<'a>(
     alloc: Global,
     out: &mut Text,
-    definitions: &[ToplevelDefinition],
-    definition: &ToplevelValueDefinition,
+    names: &Names<'a>,
+    definition: &'a ToplevelValueDefinition,
     tree: &Tree,
 ) -> Mem<()> {
-    if is_denoted(alloc, definitions, definition, tree)? {
+    if is_denoted(alloc, names, definition, tree) {
         out.push_str(" = ")?;
         out.push_str(definition.name.as_str())?;
     }
@@ -210,27 +223,29 @@ fn write_same(
 }
 
 /// Writes the names of the values that denote the tree, of the first so many definitions.
-fn write_all_same(
+fn write_all_same<'a>(
     alloc: Global,
     out: &mut Text,
-    definitions: &[ToplevelDefinition],
+    definitions: &'a [ToplevelDefinition],
+    names: &Names<'a>,
     number: usize,
     tree: &Tree,
 ) -> Mem<()> {
     for definition in definitions.iter().take(number) {
         match value_in(definition) {
             None => {}
-            Some(definition) => write_same(alloc, out, definitions, definition, tree)?,
+            Some(definition) => write_same(alloc, out, names, definition, tree)?,
         }
     }
     Ok(())
 }
 
 /// Writes what is said of a value that stands behind so many definitions.
-fn write_denoted(
+fn write_denoted<'a>(
     alloc: Global,
     out: &mut Text,
-    definitions: &[ToplevelDefinition],
+    definitions: &'a [ToplevelDefinition],
+    names: &Names<'a>,
     steps: usize,
     number: usize,
     denoted: &Denotation<Tree>,
@@ -239,8 +254,8 @@ fn write_denoted(
         Denotation::Denoted(tree) => {
             out.push_str(" = ")?;
             write_tree(alloc, out, tree)?;
-            write_all_same(alloc, out, definitions, number, tree)?;
-            write_answers(alloc, out, definitions, steps, tree)
+            write_all_same(alloc, out, definitions, names, number, tree)?;
+            write_answers(alloc, out, definitions, names, steps, tree)
         }
         Denotation::Nothing => out.push_str(" is nothing"),
         Denotation::Unsure => out.push_str(" is unknown"),
@@ -248,31 +263,41 @@ fn write_denoted(
 }
 
 /// Writes the line of a value that stands behind so many definitions.
-fn write_value(
+fn write_value<'a>(
     alloc: Global,
     out: &mut Text,
-    definitions: &[ToplevelDefinition],
+    definitions: &'a [ToplevelDefinition],
+    names: &Names<'a>,
     steps: usize,
     number: usize,
-    definition: &ToplevelValueDefinition,
+    definition: &'a ToplevelValueDefinition,
 ) -> Mem<()> {
     out.push_str(definition.name.as_str())?;
-    let denoted = denoted(alloc, definitions, definition)?;
-    write_denoted(alloc, out, definitions, steps, number, &denoted)?;
+    let denoted = denoted(alloc, names, definition);
+    write_denoted(alloc, out, definitions, names, steps, number, &denoted)?;
     out.push_str("\n")
 }
 
 /// Writes the lines of values.
-pub(crate) fn write_values(
+pub(crate) fn write_values<'a>(
     alloc: Global,
     out: &mut Text,
-    definitions: &[ToplevelDefinition],
+    definitions: &'a [ToplevelDefinition],
+    names: &Names<'a>,
     steps: usize,
 ) -> Mem<()> {
     for (number, definition) in definitions.iter().enumerate() {
         match value_in(definition) {
             None => {}
-            Some(definition) => write_value(alloc, out, definitions, steps, number, definition)?,
+            Some(definition) => write_value(
+                alloc,
+                out,
+                definitions,
+                names,
+                steps,
+                number,
+                definition,
+            )?,
         }
     }
     Ok(())

@@ -13,7 +13,8 @@ mod trees;
 use crate::judgements::{write_members, write_values};
 use crate::sight::{in_sight, steps_of};
 use asn_derivation::SpecError;
-use asn_memory::{Mem, Text};
+use asn_index::Names;
+use asn_memory::{List, Mem, Text};
 use asn_modules::asn_spec;
 use asn_streams::{StdSink, StdSource, give_all, take_text};
 use asn_tree::{Reading, ToplevelDefinition};
@@ -25,10 +26,16 @@ use std::string::ToString;
 const DEPTH: usize = 512;
 
 /// Writes the lines of these definitions.
-fn write_definitions(alloc: Global, out: &mut Text, definitions: &[ToplevelDefinition]) -> Mem<()> {
+fn write_definitions(
+    alloc: Global,
+    out: &mut Text,
+    definitions: &List<ToplevelDefinition>,
+) -> Mem<()> {
+    let names = Names::new(alloc, definitions)?;
+    let definitions = definitions.as_slice();
     let steps = steps_of(definitions);
-    write_members(alloc, out, definitions, steps)?;
-    write_values(alloc, out, definitions, steps)
+    write_members(alloc, out, definitions, &names, steps)?;
+    write_values(alloc, out, definitions, &names, steps)
 }
 
 /// Writes the lines of what was read, or that nothing was.
@@ -36,7 +43,7 @@ fn write_lines(alloc: Global, out: &mut Text, read: Result<Reading, SpecError>) 
     match read {
         Ok(reading) => {
             let definitions = in_sight(alloc, reading)?;
-            write_definitions(alloc, out, definitions.as_slice())
+            write_definitions(alloc, out, &definitions)
         }
         Err(_) => out.push_str("not read\n"),
     }

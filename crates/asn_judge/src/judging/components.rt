@@ -12,7 +12,7 @@ ghost use Rattle.asn_meaning.specs.Judge.{meaning};
 ghost use Rattle.asn_meaning.specs.ValueTrees.{field_named};
 ghost use Rattle.asn_tree.specs.declared.types.ChoiceOption.{out-ChoiceOption};
 ghost use Rattle.asn_tree.specs.declared.types.SequenceOrSet.{out-SequenceOrSet};
-ghost use Rattle.std.specs.Prelude.{◌≡◌, IfOk};
+ghost use Rattle.std.specs.Prelude.{◌≡◌, IfOk, ℕ, ◌+◌};
 
 use crate::judging::constraints::part_holds;
 use crate::presence::{
@@ -20,36 +20,35 @@ use crate::presence::{
 };
 use crate::trees::same_name;
 use asn_heads::{Kind, Place, Scope, TypeForm, kind_of, option_named};
+use asn_index::Names;
 use asn_memory::{Mem, Text};
 use asn_ranges::Parent;
 use asn_shapes::{
     Answer, Field, Member, Tree, alternative_of, fields_of, find_field, member_named,
     struct_members,
 };
-use asn_tree::{
-    ChoiceOption, ConstrainedComponent, InnerTypeConstraint, SequenceOrSet, ToplevelDefinition,
-};
+use asn_tree::{ChoiceOption, ConstrainedComponent, InnerTypeConstraint, SequenceOrSet};
 use std::alloc::Global;
 
 /// Whether WITH COMPONENTS holds of a tree.
 #[cycle(judging)]
 pub(super) fn inner_holds<'a>(
     alloc: Global,
-    definitions: &'a [ToplevelDefinition],
+    names: &Names<'a>,
     steps: usize,
     scope: &Scope<'a>,
     parent: Parent<'_, '_, 'a>,
     inner: &'a InnerTypeConstraint,
     tree: &Tree,
 ) -> Mem<Answer>
-    ensures { IfOk result (λ answer. known answer ≡ inner_holds (meaning definitions.now steps) (shown scope.now) (shown_parent parent.entry) inner.now (shown_tree tree.now)) }
+    ensures { IfOk result (λ answer. (m : ℕ) → known answer ≡ inner_holds (meaning names.now.definitions.now (steps + m)) (shown scope.now) (shown_parent parent.entry) inner.now (shown_tree tree.now)) }
 {
     match parent {
         Parent::Characters(_) => Ok(Answer::No),
         Parent::Values { head, .. } => {
             let kind = kind_of(head.ty);
             let inside = &head.scope;
-            let answer = inner_at(alloc, definitions, steps, scope, inner, tree, inside, kind)?;
+            let answer = inner_at(alloc, names, steps, scope, inner, tree, inside, kind)?;
             Ok(answer)
         }
     }
@@ -59,7 +58,7 @@ pub(super) fn inner_holds<'a>(
 #[cycle(judging)]
 fn inner_at<'a>(
     alloc: Global,
-    definitions: &'a [ToplevelDefinition],
+    names: &Names<'a>,
     steps: usize,
     scope: &Scope<'a>,
     inner: &'a InnerTypeConstraint,
@@ -67,34 +66,16 @@ fn inner_at<'a>(
     inside: &Scope<'a>,
     kind: Kind<'a>,
 ) -> Mem<Answer>
-    ensures { IfOk result (λ answer. known answer ≡ inner_at (meaning definitions.now steps) (shown scope.now) inner.now (shown_tree tree.now) (shown inside.now) (shown_kind kind.entry)) }
+    ensures { IfOk result (λ answer. (m : ℕ) → known answer ≡ inner_at (meaning names.now.definitions.now (steps + m)) (shown scope.now) inner.now (shown_tree tree.now) (shown inside.now) (shown_kind kind.entry)) }
 {
     match kind {
         Kind::Struct(layer) => {
-            let answer = struct_holds(
-                alloc,
-                definitions,
-                steps,
-                scope,
-                inside,
-                layer,
-                inner,
-                tree,
-            )?;
+            let answer = struct_holds(alloc, names, steps, scope, inside, layer, inner, tree)?;
             Ok(answer)
         }
         Kind::Choice(options) => {
             let options = options.as_slice();
-            let answer = choice_holds(
-                alloc,
-                definitions,
-                steps,
-                scope,
-                inside,
-                options,
-                inner,
-                tree,
-            )?;
+            let answer = choice_holds(alloc, names, steps, scope, inside, options, inner, tree)?;
             Ok(answer)
         }
         Kind::Null => Ok(Answer::No),
@@ -120,7 +101,7 @@ fn inner_at<'a>(
 #[tactic(auto, using(crate::proofs::Inner::no_struct, crate::proofs::Inner::struct_unknown, crate::proofs::Inner::struct_known))]
 fn struct_holds<'a>(
     alloc: Global,
-    definitions: &'a [ToplevelDefinition],
+    names: &Names<'a>,
     steps: usize,
     scope: &Scope<'a>,
     inside: &Scope<'a>,
@@ -128,23 +109,15 @@ fn struct_holds<'a>(
     inner: &'a InnerTypeConstraint,
     tree: &Tree,
 ) -> Mem<Answer>
-    ensures { IfOk result (λ answer. known answer ≡ struct_holds (meaning definitions.now steps) (shown scope.now) ((meaning definitions.now steps).members (shown inside.now) (out-SequenceOrSet layer.now)) inner.now (shown_tree tree.now)) }
+    ensures { IfOk result (λ answer. (m : ℕ) → known answer ≡ struct_holds (meaning names.now.definitions.now (steps + m)) (shown scope.now) ((meaning names.now.definitions.now (steps + m)).members (shown inside.now) (out-SequenceOrSet layer.now)) inner.now (shown_tree tree.now)) }
 {
     match fields_of(tree) {
         None => Ok(Answer::No),
-        Some(fields) => match struct_members(alloc, definitions, steps, inside, layer)? {
+        Some(fields) => match struct_members(alloc, names, steps, inside, layer)? {
             None => Ok(Answer::Unknown),
             Some(members) => {
                 let members = members.as_slice();
-                let answer = members_hold(
-                    alloc,
-                    definitions,
-                    steps,
-                    scope,
-                    inner,
-                    fields,
-                    members,
-                )?;
+                let answer = members_hold(alloc, names, steps, scope, inner, fields, members)?;
                 Ok(answer)
             }
         },
@@ -155,16 +128,16 @@ fn struct_holds<'a>(
 #[cycle(judging)]
 fn members_hold<'a>(
     alloc: Global,
-    definitions: &'a [ToplevelDefinition],
+    names: &Names<'a>,
     steps: usize,
     scope: &Scope<'a>,
     inner: &'a InnerTypeConstraint,
     fields: &[Field],
     members: &[Member<'a>],
 ) -> Mem<Answer>
-    ensures { IfOk result (λ answer. known answer ≡ members_hold (meaning definitions.now steps) (shown scope.now) inner.now (shown_fields fields.now) (shown_members members.now)) }
+    ensures { IfOk result (λ answer. (m : ℕ) → known answer ≡ members_hold (meaning names.now.definitions.now (steps + m)) (shown scope.now) inner.now (shown_fields fields.now) (shown_members members.now)) }
 {
-    let listed = listed_members_hold(alloc, definitions, steps, scope, inner, fields, members)?;
+    let listed = listed_members_hold(alloc, names, steps, scope, inner, fields, members)?;
     let others = are_left_out(inner, fields, members);
     Ok(listed.and(others))
 }
@@ -174,28 +147,21 @@ fn members_hold<'a>(
 #[tactic(auto, using(crate::proofs::Inner::listed_member_next, crate::proofs::Inner::listed_members_done))]
 fn listed_members_hold<'a>(
     alloc: Global,
-    definitions: &'a [ToplevelDefinition],
+    names: &Names<'a>,
     steps: usize,
     scope: &Scope<'a>,
     inner: &'a InnerTypeConstraint,
     fields: &[Field],
     members: &[Member<'a>],
 ) -> Mem<Answer>
-    ensures { IfOk result (λ answer. known answer ≡ each (listed_member_holds (meaning definitions.now steps) (shown scope.now) inner.now.is_partial (shown_members members.now) (shown_fields fields.now)) inner.now.constraints) }
+    ensures { IfOk result (λ answer. (m : ℕ) → known answer ≡ each (listed_member_holds (meaning names.now.definitions.now (steps + m)) (shown scope.now) inner.now.is_partial (shown_members members.now) (shown_fields fields.now)) inner.now.constraints) }
 {
     let is_partial = inner.is_partial;
     let components = inner.constraints.as_slice();
     let mut answer = Answer::Yes;
     for listed in components {
         let one = listed_member_holds(
-            alloc,
-            definitions,
-            steps,
-            scope,
-            is_partial,
-            members,
-            fields,
-            listed,
+            alloc, names, steps, scope, is_partial, members, fields, listed,
         )?;
         answer = answer.and(one);
     }
@@ -207,7 +173,7 @@ fn listed_members_hold<'a>(
 #[tactic(auto, using(crate::proofs::Inner::no_member, crate::proofs::Inner::some_member))]
 fn listed_member_holds<'a>(
     alloc: Global,
-    definitions: &'a [ToplevelDefinition],
+    names: &Names<'a>,
     steps: usize,
     scope: &Scope<'a>,
     is_partial: bool,
@@ -215,20 +181,13 @@ fn listed_member_holds<'a>(
     fields: &[Field],
     listed: &'a ConstrainedComponent,
 ) -> Mem<Answer>
-    ensures { IfOk result (λ answer. known answer ≡ listed_member_holds (meaning definitions.now steps) (shown scope.now) is_partial (shown_members members.now) (shown_fields fields.now) listed.now) }
+    ensures { IfOk result (λ answer. (m : ℕ) → known answer ≡ listed_member_holds (meaning names.now.definitions.now (steps + m)) (shown scope.now) is_partial (shown_members members.now) (shown_fields fields.now) listed.now) }
 {
     match member_named(members, listed.identifier.as_str()) {
         None => Ok(Answer::Unknown),
         Some(member) => {
             let answer = member_holds(
-                alloc,
-                definitions,
-                steps,
-                scope,
-                is_partial,
-                listed,
-                fields,
-                member,
+                alloc, names, steps, scope, is_partial, listed, fields, member,
             )?;
             Ok(answer)
         }
@@ -240,7 +199,7 @@ fn listed_member_holds<'a>(
 #[tactic(auto, using(crate::proofs::Inner::member_missing, crate::proofs::Inner::member_there))]
 fn member_holds<'a>(
     alloc: Global,
-    definitions: &'a [ToplevelDefinition],
+    names: &Names<'a>,
     steps: usize,
     scope: &Scope<'a>,
     is_partial: bool,
@@ -248,7 +207,7 @@ fn member_holds<'a>(
     fields: &[Field],
     member: &Member<'a>,
 ) -> Mem<Answer>
-    ensures { IfOk result (λ answer. known answer ≡ member_holds (meaning definitions.now steps) (shown scope.now) is_partial listed.now (field_named (shown_fields fields.now) listed.now.identifier) (shown_member member.now)) }
+    ensures { IfOk result (λ answer. (m : ℕ) → known answer ≡ member_holds (meaning names.now.definitions.now (steps + m)) (shown scope.now) is_partial listed.now (field_named (shown_fields fields.now) listed.now.identifier) (shown_member member.now)) }
 {
     match find_field(fields, listed.identifier.as_str()) {
         None => Ok(Answer::of(!must_be_present(is_partial, listed.presence, member))),
@@ -256,7 +215,7 @@ fn member_holds<'a>(
             let place = member.place(alloc)?;
             let allowed = Answer::of(!is_absent_word(listed.presence));
             let constraints = listed.constraints.as_slice();
-            let held = part_holds(alloc, definitions, steps, scope, &place, constraints, tree)?;
+            let held = part_holds(alloc, names, steps, scope, &place, constraints, tree)?;
             Ok(allowed.and(held))
         }
     }
@@ -267,7 +226,7 @@ fn member_holds<'a>(
 #[tactic(auto, using(crate::proofs::Inner::no_choice, crate::proofs::Inner::some_choice))]
 fn choice_holds<'a>(
     alloc: Global,
-    definitions: &'a [ToplevelDefinition],
+    names: &Names<'a>,
     steps: usize,
     scope: &Scope<'a>,
     inside: &Scope<'a>,
@@ -275,7 +234,7 @@ fn choice_holds<'a>(
     inner: &'a InnerTypeConstraint,
     tree: &Tree,
 ) -> Mem<Answer>
-    ensures { IfOk result (λ answer. known answer ≡ choice_holds (meaning definitions.now steps) (shown scope.now) (shown inside.now) options.now inner.now (shown_tree tree.now)) }
+    ensures { IfOk result (λ answer. (m : ℕ) → known answer ≡ choice_holds (meaning names.now.definitions.now (steps + m)) (shown scope.now) (shown inside.now) options.now inner.now (shown_tree tree.now)) }
 {
     match alternative_of(tree) {
         None => Ok(Answer::No),
@@ -283,7 +242,7 @@ fn choice_holds<'a>(
             let named = Answer::of(may_be_chosen(inner, alternative.name.as_str()));
             let listed = listed_options_hold(
                 alloc,
-                definitions,
+                names,
                 steps,
                 scope,
                 inside,
@@ -302,7 +261,7 @@ fn choice_holds<'a>(
 #[tactic(auto, using(crate::proofs::Inner::listed_option_next, crate::proofs::Inner::listed_options_done))]
 fn listed_options_hold<'a>(
     alloc: Global,
-    definitions: &'a [ToplevelDefinition],
+    names: &Names<'a>,
     steps: usize,
     scope: &Scope<'a>,
     inside: &Scope<'a>,
@@ -311,20 +270,12 @@ fn listed_options_hold<'a>(
     tree: &Tree,
     components: &'a [ConstrainedComponent],
 ) -> Mem<Answer>
-    ensures { IfOk result (λ answer. known answer ≡ each (listed_option_holds (meaning definitions.now steps) (shown scope.now) (shown inside.now) options.now name.now (shown_tree tree.now)) components.now) }
+    ensures { IfOk result (λ answer. (m : ℕ) → known answer ≡ each (listed_option_holds (meaning names.now.definitions.now (steps + m)) (shown scope.now) (shown inside.now) options.now name.now (shown_tree tree.now)) components.now) }
 {
     let mut answer = Answer::Yes;
     for listed in components {
         let one = listed_option_holds(
-            alloc,
-            definitions,
-            steps,
-            scope,
-            inside,
-            options,
-            name,
-            tree,
-            listed,
+            alloc, names, steps, scope, inside, options, name, tree, listed,
         )?;
         answer = answer.and(one);
     }
@@ -336,7 +287,7 @@ fn listed_options_hold<'a>(
 #[tactic(auto, using(crate::proofs::Inner::no_option, crate::proofs::Inner::some_option))]
 fn listed_option_holds<'a>(
     alloc: Global,
-    definitions: &'a [ToplevelDefinition],
+    names: &Names<'a>,
     steps: usize,
     scope: &Scope<'a>,
     inside: &Scope<'a>,
@@ -345,22 +296,14 @@ fn listed_option_holds<'a>(
     tree: &Tree,
     listed: &'a ConstrainedComponent,
 ) -> Mem<Answer>
-    ensures { IfOk result (λ answer. known answer ≡ listed_option_holds (meaning definitions.now steps) (shown scope.now) (shown inside.now) options.now name.now (shown_tree tree.now) listed.now) }
+    ensures { IfOk result (λ answer. (m : ℕ) → known answer ≡ listed_option_holds (meaning names.now.definitions.now (steps + m)) (shown scope.now) (shown inside.now) options.now name.now (shown_tree tree.now) listed.now) }
 {
     match option_named(options, listed.identifier.as_str()) {
         None => Ok(Answer::Unknown),
         Some(option) => {
             let chosen = same_name(name, &listed.identifier);
             let answer = option_holds(
-                alloc,
-                definitions,
-                steps,
-                scope,
-                inside,
-                chosen,
-                tree,
-                listed,
-                option,
+                alloc, names, steps, scope, inside, chosen, tree, listed, option,
             )?;
             Ok(answer)
         }
@@ -372,7 +315,7 @@ fn listed_option_holds<'a>(
 #[tactic(auto, using(crate::proofs::Inner::option_chosen, crate::proofs::Inner::option_not_chosen))]
 fn option_holds<'a>(
     alloc: Global,
-    definitions: &'a [ToplevelDefinition],
+    names: &Names<'a>,
     steps: usize,
     scope: &Scope<'a>,
     inside: &Scope<'a>,
@@ -381,7 +324,7 @@ fn option_holds<'a>(
     listed: &'a ConstrainedComponent,
     option: &'a ChoiceOption,
 ) -> Mem<Answer>
-    ensures { IfOk result (λ answer. known answer ≡ option_holds (meaning definitions.now steps) (shown scope.now) (shown inside.now) chosen (shown_tree tree.now) listed.now (out-ChoiceOption option.now)) }
+    ensures { IfOk result (λ answer. (m : ℕ) → known answer ≡ option_holds (meaning names.now.definitions.now (steps + m)) (shown scope.now) (shown inside.now) chosen (shown_tree tree.now) listed.now (out-ChoiceOption option.now)) }
 {
     let allowed = Answer::of(is_choice_allowed(listed.presence, chosen));
     if !chosen {
@@ -393,6 +336,6 @@ fn option_holds<'a>(
         ty: TypeForm::Written(&option.ty),
     };
     let constraints = listed.constraints.as_slice();
-    let held = part_holds(alloc, definitions, steps, scope, &place, constraints, tree)?;
+    let held = part_holds(alloc, names, steps, scope, &place, constraints, tree)?;
     Ok(allowed.and(held))
 }

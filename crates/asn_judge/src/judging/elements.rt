@@ -12,7 +12,7 @@ ghost use Rattle.asn_meaning.specs.Judge.{meaning};
 ghost use Rattle.asn_meaning.specs.Shapes.{list_judged, trees_judged};
 ghost use Rattle.asn_meaning.specs.ValueTrees.{WholeNumber};
 ghost use Rattle.asn_tree.specs.declared.constraints.SubtypeElement.{out-SubtypeElement};
-ghost use Rattle.std.specs.Prelude.{◌≡◌, IfOk, pos};
+ghost use Rattle.std.specs.Prelude.{◌≡◌, IfOk, pos, ℕ, ◌+◌};
 
 use crate::characters::{character_tree, characters_of, text_of};
 use crate::judging::accepting::type_accepts;
@@ -23,32 +23,33 @@ use crate::singles::{range_holds, single_holds};
 use crate::sizes::{size_numbers, size_place, size_tree};
 use crate::trees::counted;
 use asn_heads::{Place, Scope};
-use asn_memory::Mem;
+use asn_index::Names;
+use asn_memory::{Mem, OutOfMemory};
 use asn_ranges::{Numbers, Parent, codes_of};
 use asn_shapes::{Answer, Tree, elements_of};
-use asn_tree::{Constraint, ElementOrSetOperation, SubtypeElement, ToplevelDefinition};
+use asn_tree::{Constraint, ElementOrSetOperation, SubtypeElement};
 use std::alloc::Global;
 
 /// Whether an element of a constraint, written in a scope, holds of a tree, within a number of steps.
 ///
-/// Unknown: the steps do not reach, or a name leads nowhere. Err: want of memory.
+/// Unknown: a name leads nowhere, however many steps there are. Err: want of memory, also where the steps are used up.
 #[cycle(judging)]
-#[tactic(auto, using(crate::proofs::Holding::holds_at_zero, crate::proofs::Holding::holds_at_more))]
+#[tactic(auto, using(crate::proofs::Holding::holds_at_more))]
 pub fn holds<'a>(
     alloc: Global,
-    definitions: &'a [ToplevelDefinition],
+    names: &Names<'a>,
     steps: usize,
     scope: &Scope<'a>,
     parent: Parent<'_, '_, 'a>,
     element: &'a SubtypeElement,
     tree: &Tree,
 ) -> Mem<Answer>
-    ensures { IfOk result (λ answer. known answer ≡ (meaning definitions.now steps).holds (shown scope.now) (shown_parent parent.entry) element.now (shown_tree tree.now)) }
+    ensures { IfOk result (λ answer. (m : ℕ) → known answer ≡ (meaning names.now.definitions.now (steps + m)).holds (shown scope.now) (shown_parent parent.entry) element.now (shown_tree tree.now)) }
 {
     if steps == 0 {
-        return Ok(Answer::Unknown);
+        return Err(OutOfMemory);
     }
-    let answer = holds_at(alloc, definitions, steps - 1, scope, parent, element, tree)?;
+    let answer = holds_at(alloc, names, steps - 1, scope, parent, element, tree)?;
     Ok(answer)
 }
 
@@ -56,28 +57,28 @@ pub fn holds<'a>(
 #[cycle(judging)]
 fn holds_at<'a>(
     alloc: Global,
-    definitions: &'a [ToplevelDefinition],
+    names: &Names<'a>,
     steps: usize,
     scope: &Scope<'a>,
     parent: Parent<'_, '_, 'a>,
     element: &'a SubtypeElement,
     tree: &Tree,
 ) -> Mem<Answer>
-    ensures { IfOk result (λ answer. known answer ≡ holds_at (meaning definitions.now steps) (shown scope.now) (shown_parent parent.entry) (shown_tree tree.now) (out-SubtypeElement element.now)) }
+    ensures { IfOk result (λ answer. (m : ℕ) → known answer ≡ holds_at (meaning names.now.definitions.now (steps + m)) (shown scope.now) (shown_parent parent.entry) (shown_tree tree.now) (out-SubtypeElement element.now)) }
 {
     match element {
         SubtypeElement::SingleValue {
             value,
             extensible: _,
         } => {
-            let answer = single_holds(alloc, definitions, steps, scope, parent, value, tree)?;
+            let answer = single_holds(alloc, names, steps, scope, parent, value, tree)?;
             Ok(answer)
         }
         SubtypeElement::ContainedSubtype {
             subtype,
             extensible: _,
         } => {
-            let answer = type_accepts(alloc, definitions, steps, scope, subtype, tree)?;
+            let answer = type_accepts(alloc, names, steps, scope, subtype, tree)?;
             Ok(answer)
         }
         SubtypeElement::ValueRange {
@@ -89,7 +90,7 @@ fn holds_at<'a>(
         } => {
             let answer = range_holds(
                 alloc,
-                definitions,
+                names,
                 steps,
                 scope,
                 parent,
@@ -103,32 +104,24 @@ fn holds_at<'a>(
         }
         SubtypeElement::PermittedAlphabet(set) => {
             let set = set.get();
-            let answer = alphabet_holds(alloc, definitions, steps, scope, parent, set, tree)?;
+            let answer = alphabet_holds(alloc, names, steps, scope, parent, set, tree)?;
             Ok(answer)
         }
         SubtypeElement::SizeConstraint(set) => {
-            let answer = size_holds(alloc, definitions, steps, scope, set.get(), tree)?;
+            let answer = size_holds(alloc, names, steps, scope, set.get(), tree)?;
             Ok(answer)
         }
         SubtypeElement::TypeConstraint(ty) => {
-            let answer = type_accepts(alloc, definitions, steps, scope, ty, tree)?;
+            let answer = type_accepts(alloc, names, steps, scope, ty, tree)?;
             Ok(answer)
         }
         SubtypeElement::SingleTypeConstraint(constraints) => {
             let constraints = constraints.as_slice();
-            let answer = component_holds(
-                alloc,
-                definitions,
-                steps,
-                scope,
-                parent,
-                constraints,
-                tree,
-            )?;
+            let answer = component_holds(alloc, names, steps, scope, parent, constraints, tree)?;
             Ok(answer)
         }
         SubtypeElement::MultipleTypeConstraints(inner) => {
-            let answer = inner_holds(alloc, definitions, steps, scope, parent, inner, tree)?;
+            let answer = inner_holds(alloc, names, steps, scope, parent, inner, tree)?;
             Ok(answer)
         }
         SubtypeElement::PatternConstraint(_) => Ok(Answer::Yes),
@@ -142,29 +135,21 @@ fn holds_at<'a>(
 #[tactic(auto, using(crate::proofs::Holding::no_alphabet, crate::proofs::Holding::some_alphabet))]
 fn alphabet_holds<'a>(
     alloc: Global,
-    definitions: &'a [ToplevelDefinition],
+    names: &Names<'a>,
     steps: usize,
     scope: &Scope<'a>,
     parent: Parent<'_, '_, 'a>,
     set: &'a ElementOrSetOperation,
     tree: &Tree,
 ) -> Mem<Answer>
-    ensures { IfOk result (λ answer. known answer ≡ alphabet_holds (meaning definitions.now steps) (shown scope.now) (shown_parent parent.entry) set.now (shown_tree tree.now)) }
+    ensures { IfOk result (λ answer. (m : ℕ) → known answer ≡ alphabet_holds (meaning names.now.definitions.now (steps + m)) (shown scope.now) (shown_parent parent.entry) set.now (shown_tree tree.now)) }
 {
     match text_of(tree) {
         None => Ok(Answer::No),
         Some(text) => {
             let codes = codes_of(alloc, parent)?;
             let characters = characters_of(alloc, text.as_str())?;
-            let answer = characters_hold(
-                alloc,
-                definitions,
-                steps,
-                scope,
-                &codes,
-                set,
-                &characters,
-            )?;
+            let answer = characters_hold(alloc, names, steps, scope, &codes, set, &characters)?;
             Ok(answer)
         }
     }
@@ -175,18 +160,18 @@ fn alphabet_holds<'a>(
 #[tactic(auto, using(crate::proofs::Holding::character_next, crate::proofs::Holding::characters_done))]
 fn characters_hold<'a>(
     alloc: Global,
-    definitions: &'a [ToplevelDefinition],
+    names: &Names<'a>,
     steps: usize,
     scope: &Scope<'a>,
     codes: &Numbers,
     set: &'a ElementOrSetOperation,
     characters: &[char],
 ) -> Mem<Answer>
-    ensures { IfOk result (λ answer. known answer ≡ characters_hold (meaning definitions.now steps) (shown scope.now) (shown_numbers codes.now) set.now characters.now) }
+    ensures { IfOk result (λ answer. (m : ℕ) → known answer ≡ characters_hold (meaning names.now.definitions.now (steps + m)) (shown scope.now) (shown_numbers codes.now) set.now characters.now) }
 {
     let mut answer = Answer::Yes;
     for character in characters {
-        let one = character_holds(alloc, definitions, steps, scope, codes, set, *character)?;
+        let one = character_holds(alloc, names, steps, scope, codes, set, *character)?;
         answer = answer.and(one);
     }
     Ok(answer)
@@ -197,18 +182,18 @@ fn characters_hold<'a>(
 #[tactic(auto, using(crate::proofs::Holding::character_asked))]
 fn character_holds<'a>(
     alloc: Global,
-    definitions: &'a [ToplevelDefinition],
+    names: &Names<'a>,
     steps: usize,
     scope: &Scope<'a>,
     codes: &Numbers,
     set: &'a ElementOrSetOperation,
     character: char,
 ) -> Mem<Answer>
-    ensures { IfOk result (λ answer. known answer ≡ character_holds (meaning definitions.now steps) (shown scope.now) (shown_numbers codes.now) set.now character) }
+    ensures { IfOk result (λ answer. (m : ℕ) → known answer ≡ character_holds (meaning names.now.definitions.now (steps + m)) (shown scope.now) (shown_numbers codes.now) set.now character) }
 {
     let tree = character_tree(alloc, character)?;
     let parent = Parent::Characters(codes);
-    let answer = set_holds(alloc, definitions, steps, scope, parent, set, &tree)?;
+    let answer = set_holds(alloc, names, steps, scope, parent, set, &tree)?;
     Ok(answer)
 }
 
@@ -217,18 +202,18 @@ fn character_holds<'a>(
 #[tactic(auto, using(crate::proofs::Holding::no_size, crate::proofs::Holding::some_size))]
 fn size_holds<'a>(
     alloc: Global,
-    definitions: &'a [ToplevelDefinition],
+    names: &Names<'a>,
     steps: usize,
     scope: &Scope<'a>,
     set: &'a ElementOrSetOperation,
     tree: &Tree,
 ) -> Mem<Answer>
-    ensures { IfOk result (λ answer. known answer ≡ size_holds (meaning definitions.now steps) (shown scope.now) set.now (shown_tree tree.now)) }
+    ensures { IfOk result (λ answer. (m : ℕ) → known answer ≡ size_holds (meaning names.now.definitions.now (steps + m)) (shown scope.now) set.now (shown_tree tree.now)) }
 {
     match counted(tree) {
         None => Ok(Answer::No),
         Some(size) => {
-            let answer = size_is_in(alloc, definitions, steps, scope, set, size)?;
+            let answer = size_is_in(alloc, names, steps, scope, set, size)?;
             Ok(answer)
         }
     }
@@ -239,13 +224,13 @@ fn size_holds<'a>(
 #[tactic(auto, using(crate::proofs::Holding::size_asked))]
 fn size_is_in<'a>(
     alloc: Global,
-    definitions: &'a [ToplevelDefinition],
+    names: &Names<'a>,
     steps: usize,
     scope: &Scope<'a>,
     set: &'a ElementOrSetOperation,
     size: usize,
 ) -> Mem<Answer>
-    ensures { IfOk result (λ answer. known answer ≡ set_holds (meaning definitions.now steps) (shown scope.now) sizes set.now (WholeNumber (pos size))) }
+    ensures { IfOk result (λ answer. (m : ℕ) → known answer ≡ set_holds (meaning names.now.definitions.now (steps + m)) (shown scope.now) sizes set.now (WholeNumber (pos size))) }
 {
     let head = size_place();
     let numbers = size_numbers();
@@ -254,7 +239,7 @@ fn size_is_in<'a>(
         head: &head,
         numbers: &numbers,
     };
-    let answer = set_holds(alloc, definitions, steps, scope, parent, set, &tree)?;
+    let answer = set_holds(alloc, names, steps, scope, parent, set, &tree)?;
     Ok(answer)
 }
 
@@ -263,29 +248,21 @@ fn size_is_in<'a>(
 #[tactic(auto, using(crate::proofs::Holding::no_component, crate::proofs::Holding::some_component))]
 fn component_holds<'a>(
     alloc: Global,
-    definitions: &'a [ToplevelDefinition],
+    names: &Names<'a>,
     steps: usize,
     scope: &Scope<'a>,
     parent: Parent<'_, '_, 'a>,
     constraints: &'a [Constraint],
     tree: &Tree,
 ) -> Mem<Answer>
-    ensures { IfOk result (λ answer. known answer ≡ component_holds (meaning definitions.now steps) (shown scope.now) (shown_parent parent.entry) constraints.now (shown_tree tree.now)) }
+    ensures { IfOk result (λ answer. (m : ℕ) → known answer ≡ component_holds (meaning names.now.definitions.now (steps + m)) (shown scope.now) (shown_parent parent.entry) constraints.now (shown_tree tree.now)) }
 {
     match parent {
         Parent::Characters(_) => Ok(Answer::No),
         Parent::Values { head, .. } => match element_place(alloc, head)? {
             None => Ok(Answer::No),
             Some(place) => {
-                let answer = list_holds(
-                    alloc,
-                    definitions,
-                    steps,
-                    scope,
-                    &place,
-                    constraints,
-                    tree,
-                )?;
+                let answer = list_holds(alloc, names, steps, scope, &place, constraints, tree)?;
                 Ok(answer)
             }
         },
@@ -297,27 +274,19 @@ fn component_holds<'a>(
 #[tactic(auto, using(asn_shapes::proofs::Judging::no_list, asn_shapes::proofs::Judging::list_known))]
 fn list_holds<'a>(
     alloc: Global,
-    definitions: &'a [ToplevelDefinition],
+    names: &Names<'a>,
     steps: usize,
     scope: &Scope<'a>,
     place: &Place<'a>,
     constraints: &'a [Constraint],
     tree: &Tree,
 ) -> Mem<Answer>
-    ensures { IfOk result (λ answer. known answer ≡ list_judged (part_holds (meaning definitions.now steps) (shown scope.now) (shown_place place.now) constraints.now) (shown_tree tree.now)) }
+    ensures { IfOk result (λ answer. (m : ℕ) → known answer ≡ list_judged (part_holds (meaning names.now.definitions.now (steps + m)) (shown scope.now) (shown_place place.now) constraints.now) (shown_tree tree.now)) }
 {
     match elements_of(tree) {
         None => Ok(Answer::No),
         Some(elements) => {
-            let answer = elements_hold(
-                alloc,
-                definitions,
-                steps,
-                scope,
-                place,
-                constraints,
-                elements,
-            )?;
+            let answer = elements_hold(alloc, names, steps, scope, place, constraints, elements)?;
             Ok(answer)
         }
     }
@@ -328,26 +297,18 @@ fn list_holds<'a>(
 #[tactic(auto, using(asn_shapes::proofs::Judging::element_next, asn_shapes::proofs::Judging::elements_done))]
 fn elements_hold<'a>(
     alloc: Global,
-    definitions: &'a [ToplevelDefinition],
+    names: &Names<'a>,
     steps: usize,
     scope: &Scope<'a>,
     place: &Place<'a>,
     constraints: &'a [Constraint],
     elements: &[Tree],
 ) -> Mem<Answer>
-    ensures { IfOk result (λ answer. known answer ≡ trees_judged (part_holds (meaning definitions.now steps) (shown scope.now) (shown_place place.now) constraints.now) (shown_trees elements.now)) }
+    ensures { IfOk result (λ answer. (m : ℕ) → known answer ≡ trees_judged (part_holds (meaning names.now.definitions.now (steps + m)) (shown scope.now) (shown_place place.now) constraints.now) (shown_trees elements.now)) }
 {
     let mut answer = Answer::Yes;
     for element in elements {
-        let one = part_holds(
-            alloc,
-            definitions,
-            steps,
-            scope,
-            place,
-            constraints,
-            element,
-        )?;
+        let one = part_holds(alloc, names, steps, scope, place, constraints, element)?;
         answer = answer.and(one);
     }
     Ok(answer)

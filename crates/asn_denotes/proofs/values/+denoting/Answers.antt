@@ -1,17 +1,22 @@
-use Rattle.std.proofs.Common.{ap, sym, ◌∙◌}
-use Rattle.std.specs.Option.{option_copied}
-use Rattle.asn_heads.specs.Places.{shown_place}
-use Rattle.asn_heads.specs.Scopes.{shown}
-use Rattle.asn_denotes.proofs.Standing.{stands_read}
+use Rattle.std.proofs.Common.{◌<◌, ap, ◌∙◌, arith}
+use Rattle.asn_denotes.proofs.Chaining.{follow_further, follow_known}
 use Rattle.asn_denotes.specs.Denotation.{shown_denotation}
+use Rattle.asn_denotes.specs.inner.Following.{shaped_by}
 use Rattle.asn_denotes.specs.inner.Reading.{shown_read}
-use Rattle.asn_denotes.specs.inner.Standing.{shown_stands}
-use Rattle.asn_meaning.specs.Judge.{meaning}
 use Rattle.asn_denotes.proofs.values.+denoting.Goals as goal
 
-pub reference_denoted-returns-in_ok-answer-in-Read : goal.reference_denoted-returns-in_ok-answer-in-Read
-reference_denoted-returns-in_ok-answer-in-Read t c =
-    c.in_ok-answer-in-Read.ensures
-    ∙ sym (stands_read c.args.definitions.now (meaning c.args.definitions.now c.args.steps) (shown c.args.scope.now) (shown_place c.args.head.now) (option_copied c.args.parent) c.args.name.now
-    (shown_read c.in-Read.read) (shown_denotation c.in_ok-denoted-in-Read.denoted)
-    (sym c.in_ok-tree.ensures ∙ ap shown_stands c.in-Read.is) c.in_ok-denoted-in-Read.ensures)
+pub denotes-returns-in-Known : goal.denotes-returns-in-Known
+denotes-returns-in-Known t c = λ m.
+    let lt : 0 < c.loop-left.left = omega arith in
+    c.in_ok-answer-in-Known.ensures m
+    ∙ ap (λ ws. shaped_by c.args.names.now.definitions.now m ws (shown_denotation c.in-Known.denoted)) c.as_slice.ensures
+    ∙ follow_known c.args.names.now.definitions.now c.loop-left.left m c.loop-left.wanted (shown_read c.loop-left.read) c.in_ok-denoted.field-0 c.in-Known.denoted lt
+    (c.in_ok-denoted.ensures m) c.in-Known.is
+    ∙ c.loop-left.invariant m
+
+pub denotes-loop-left-preserved : goal.denotes-loop-left-preserved
+denotes-loop-left-preserved t c = λ m.
+    let lt : 0 < c.loop-left.left = omega arith in
+    follow_further c.args.names.now.definitions.now c.loop-left.left m c.loop-left.wanted c.in_ok-wanted-in-Further.wanted (shown_read c.loop-left.read) c.in_ok-denoted.field-0
+    c.in-Further.head c.in-Further.next lt (c.in_ok-denoted.ensures m) c.in-Further.is c.in_ok-wanted-in-Further.ensures
+    ∙ c.loop-left.invariant m

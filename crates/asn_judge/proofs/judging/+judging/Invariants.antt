@@ -1,7 +1,8 @@
-use Rattle.std.proofs.Common.{◌≡◌, ◌+◌, ◌*◌, drop}
+use Rattle.std.proofs.Common.{◌≡◌, ℕ, ◌+◌, ◌-◌, ◌*◌, drop}
 use Rattle.std.specs.Option.{option_map}
 use Rattle.asn_heads.specs.Places.{shown_place}
 use Rattle.asn_heads.specs.Scopes.{shown}
+use Rattle.asn_heads.specs.Trails.{place_at, shown_targets}
 use Rattle.asn_judge.specs.inner.Judging.{characters_hold, element_holds, type_accepts}
 use Rattle.asn_judge.specs.inner.Ranking.{ranks_on}
 use Rattle.asn_judge.proofs.Holding.{ranked_by}
@@ -14,9 +15,10 @@ use Rattle.asn_shapes.specs.Trees.{shown_fields, shown_tree, shown_trees}
 use Rattle.asn_shapes.proofs.Judging.{from}
 use Rattle.asn_meaning.specs.Answers.{both, each}
 use Rattle.asn_meaning.specs.Constraints.{all_hold, listed_member_holds, listed_option_holds, part_holds}
-use Rattle.asn_meaning.specs.Judge.{meaning, member_accepts}
+use Rattle.asn_meaning.specs.Judge.{meaning, member_accepts, stands_for}
 use Rattle.asn_meaning.specs.Numbers.{answers, ranked}
-use Rattle.asn_meaning.specs.Ranges.{narrowed_by_all}
+use Rattle.asn_meaning.specs.Names.{lead}
+use Rattle.asn_meaning.specs.Ranges.{narrowed_by_all, numbers_before}
 use Rattle.asn_meaning.specs.Shapes.{trees_judged}
 use Rattle.asn_judge.proofs.judging.+judging.Given as goal
 
@@ -56,11 +58,8 @@ decreases-accepting::kind_accepts l = 16 * l.steps + 6
 abbrev pub decreases-accepting::head_accepts : goal.decreases-accepting::head_accepts
 decreases-accepting::head_accepts l = 16 * l.steps + 7
 
-abbrev pub decreases-accepting::stands_for : goal.decreases-accepting::stands_for
-decreases-accepting::stands_for l = 16 * l.steps + 8
-
-abbrev pub decreases-accepting::constraints_hold : goal.decreases-accepting::constraints_hold
-decreases-accepting::constraints_hold l = 16 * l.steps + 7
+abbrev pub decreases-accepting::accepts_on : goal.decreases-accepting::accepts_on
+decreases-accepting::accepts_on l = 16 * l.steps + 8
 
 abbrev pub decreases-accepting::accepts_at : goal.decreases-accepting::accepts_at
 decreases-accepting::accepts_at l = 16 * l.steps + 9
@@ -80,8 +79,8 @@ decreases-constraints::constraint_holds l = 16 * l.steps + 4
 abbrev pub decreases-constraints::all_hold : goal.decreases-constraints::all_hold
 decreases-constraints::all_hold l = 16 * l.steps + 5
 
-abbrev pub decreases-constraints::both_hold : goal.decreases-constraints::both_hold
-decreases-constraints::both_hold l = 16 * l.steps + 6
+abbrev pub decreases-constraints::held_with : goal.decreases-constraints::held_with
+decreases-constraints::held_with l = 16 * l.steps + 6
 
 abbrev pub decreases-constraints::part_holds : goal.decreases-constraints::part_holds
 decreases-constraints::part_holds l = 16 * l.steps + 6
@@ -151,42 +150,57 @@ decreases-components::inner_holds l = 16 * l.steps + 13
 
 abbrev pub invariant-accepting::members_accept-loop-member : goal.invariant-accepting::members_accept-loop-member
 invariant-accepting::members_accept-loop-member l =
-    both (known l.answer) (from (member_accepts (meaning l.definitions l.steps)) (shown_fields l.fields) (drop l.member-index l.members))
-    ≡ from (member_accepts (meaning l.definitions l.steps)) (shown_fields l.fields) l.members
+    (m : ℕ) →
+    both (known l.answer) (from (member_accepts (meaning l.names.definitions.now (l.steps + m))) (shown_fields l.fields.fields.now) (drop l.member-index l.members))
+    ≡ from (member_accepts (meaning l.names.definitions.now (l.steps + m))) (shown_fields l.fields.fields.now) l.members
 
 abbrev pub invariant-accepting::elements_accepted-loop-element : goal.invariant-accepting::elements_accepted-loop-element
 invariant-accepting::elements_accepted-loop-element l =
-    both (known l.answer) (trees_judged (type_accepts (meaning l.definitions l.steps) (shown l.scope) l.ty) (shown_trees (drop l.element-index l.elements)))
-    ≡ trees_judged (type_accepts (meaning l.definitions l.steps) (shown l.scope) l.ty) (shown_trees l.elements)
+    (m : ℕ) →
+    both (known l.answer) (trees_judged (type_accepts (meaning l.names.definitions.now (l.steps + m)) (shown l.scope) l.ty) (shown_trees (drop l.element-index l.elements)))
+    ≡ trees_judged (type_accepts (meaning l.names.definitions.now (l.steps + m)) (shown l.scope) l.ty) (shown_trees l.elements)
 
 abbrev pub invariant-constraints::chain_holds-loop-joined : goal.invariant-constraints::chain_holds-loop-joined
 invariant-constraints::chain_holds-loop-joined l =
-    ranked_by (element_holds (meaning l.definitions l.steps) (shown l.scope) (shown_parent l.parent) (shown_tree l.tree)) (ranks_on l.ranking) (drop l.joined-index l.others)
-    ≡ ranked answers (element_holds (meaning l.definitions l.steps) (shown l.scope) (shown_parent l.parent) (shown_tree l.tree)) (shown_chain l.chain)
+    (m : ℕ) →
+    ranked_by (element_holds (meaning l.names.definitions.now (l.steps + m)) (shown l.scope) (shown_parent l.parent) (shown_tree l.tree)) (ranks_on l.ranking) (drop l.joined-index l.others)
+    ≡ ranked answers (element_holds (meaning l.names.definitions.now (l.steps + m)) (shown l.scope) (shown_parent l.parent) (shown_tree l.tree)) (shown_chain l.chain)
 
 abbrev pub invariant-constraints::all_hold-loop-constraint : goal.invariant-constraints::all_hold-loop-constraint
 invariant-constraints::all_hold-loop-constraint l =
-    (both (known l.answer) (all_hold (meaning l.definitions l.steps) (shown l.scope) (shown_place l.head) (option_map shown_numbers l.numbers) (drop l.constraint-index l.constraints) (shown_tree l.tree))
-    ≡ all_hold (meaning l.definitions l.steps) (shown l.scope) (shown_place l.head) (option_map shown_numbers l.initial.numbers) l.constraints (shown_tree l.tree))
-    × (narrowed_by_all (meaning l.definitions l.steps) (shown l.scope) (shown_place l.head) (option_map shown_numbers l.numbers) (drop l.constraint-index l.constraints)
-    ≡ narrowed_by_all (meaning l.definitions l.steps) (shown l.scope) (shown_place l.head) (option_map shown_numbers l.initial.numbers) l.constraints)
+    ((m : ℕ) → both (known l.answer) (all_hold (meaning l.names.definitions.now (l.steps + m)) (shown l.scope) (shown_place l.head) (option_map shown_numbers l.numbers) (drop l.constraint-index l.constraints) (shown_tree l.tree))
+    ≡ all_hold (meaning l.names.definitions.now (l.steps + m)) (shown l.scope) (shown_place l.head) (option_map shown_numbers l.initial.numbers) l.constraints (shown_tree l.tree))
+    × ((m : ℕ) → narrowed_by_all (meaning l.names.definitions.now (l.steps + m)) (shown l.scope) (shown_place l.head) (option_map shown_numbers l.numbers) (drop l.constraint-index l.constraints)
+    ≡ narrowed_by_all (meaning l.names.definitions.now (l.steps + m)) (shown l.scope) (shown_place l.head) (option_map shown_numbers l.initial.numbers) l.constraints)
 
 abbrev pub invariant-elements::characters_hold-loop-character : goal.invariant-elements::characters_hold-loop-character
 invariant-elements::characters_hold-loop-character l =
-    both (known l.answer) (characters_hold (meaning l.definitions l.steps) (shown l.scope) (shown_numbers l.codes) l.set (drop l.character-index l.characters))
-    ≡ characters_hold (meaning l.definitions l.steps) (shown l.scope) (shown_numbers l.codes) l.set l.characters
+    (m : ℕ) →
+    both (known l.answer) (characters_hold (meaning l.names.definitions.now (l.steps + m)) (shown l.scope) (shown_numbers l.codes) l.set (drop l.character-index l.characters))
+    ≡ characters_hold (meaning l.names.definitions.now (l.steps + m)) (shown l.scope) (shown_numbers l.codes) l.set l.characters
 
 abbrev pub invariant-elements::elements_hold-loop-element : goal.invariant-elements::elements_hold-loop-element
 invariant-elements::elements_hold-loop-element l =
-    both (known l.answer) (trees_judged (part_holds (meaning l.definitions l.steps) (shown l.scope) (shown_place l.place) l.constraints) (shown_trees (drop l.element-index l.elements)))
-    ≡ trees_judged (part_holds (meaning l.definitions l.steps) (shown l.scope) (shown_place l.place) l.constraints) (shown_trees l.elements)
+    (m : ℕ) →
+    both (known l.answer) (trees_judged (part_holds (meaning l.names.definitions.now (l.steps + m)) (shown l.scope) (shown_place l.place) l.constraints) (shown_trees (drop l.element-index l.elements)))
+    ≡ trees_judged (part_holds (meaning l.names.definitions.now (l.steps + m)) (shown l.scope) (shown_place l.place) l.constraints) (shown_trees l.elements)
 
 abbrev pub invariant-components::listed_members_hold-loop-listed : goal.invariant-components::listed_members_hold-loop-listed
 invariant-components::listed_members_hold-loop-listed l =
-    both (known l.answer) (each (listed_member_holds (meaning l.definitions l.steps) (shown l.scope) l.is_partial (shown_members l.members) (shown_fields l.fields)) (drop l.listed-index l.components))
-    ≡ each (listed_member_holds (meaning l.definitions l.steps) (shown l.scope) l.is_partial (shown_members l.members) (shown_fields l.fields)) l.components
+    (m : ℕ) →
+    both (known l.answer) (each (listed_member_holds (meaning l.names.definitions.now (l.steps + m)) (shown l.scope) l.is_partial (shown_members l.members) (shown_fields l.fields)) (drop l.listed-index l.components))
+    ≡ each (listed_member_holds (meaning l.names.definitions.now (l.steps + m)) (shown l.scope) l.is_partial (shown_members l.members) (shown_fields l.fields)) l.components
 
 abbrev pub invariant-components::listed_options_hold-loop-listed : goal.invariant-components::listed_options_hold-loop-listed
 invariant-components::listed_options_hold-loop-listed l =
-    both (known l.answer) (each (listed_option_holds (meaning l.definitions l.steps) (shown l.scope) (shown l.inside) l.options l.name (shown_tree l.tree)) (drop l.listed-index l.components))
-    ≡ each (listed_option_holds (meaning l.definitions l.steps) (shown l.scope) (shown l.inside) l.options l.name (shown_tree l.tree)) l.components
+    (m : ℕ) →
+    both (known l.answer) (each (listed_option_holds (meaning l.names.definitions.now (l.steps + m)) (shown l.scope) (shown l.inside) l.options l.name (shown_tree l.tree)) (drop l.listed-index l.components))
+    ≡ each (listed_option_holds (meaning l.names.definitions.now (l.steps + m)) (shown l.scope) (shown l.inside) l.options l.name (shown_tree l.tree)) l.components
+
+abbrev pub invariant-accepting::accepts_on-loop-number : goal.invariant-accepting::accepts_on-loop-number
+invariant-accepting::accepts_on-loop-number l =
+    ((m : ℕ) → known l.held.answer
+    ≡ stands_for (meaning l.names.definitions.now (l.steps - l.number + m)) (shown_tree l.tree) (place_at (shown_place l.place) (shown_targets l.targets) l.number)
+    (lead l.names.definitions.now (meaning l.names.definitions.now (l.steps - l.number + m)) (place_at (shown_place l.place) (shown_targets l.targets) l.number)))
+    × ((m : ℕ) → option_map shown_numbers l.held.numbers
+    ≡ numbers_before l.names.definitions.now (meaning l.names.definitions.now (l.steps - l.number + m)) (place_at (shown_place l.place) (shown_targets l.targets) l.number))

@@ -1,4 +1,4 @@
-use Rattle.std.proofs.Common.{◌≡◌, ◌+◌, ◌*◌, drop, Some}
+use Rattle.std.proofs.Common.{◌≡◌, ℕ, ◌+◌, ◌*◌, drop, Some}
 use Rattle.asn_heads.specs.Scopes.{shown}
 use Rattle.asn_shapes.specs.Members.{shown_members}
 use Rattle.asn_shapes.proofs.Putting.{from}
@@ -27,10 +27,10 @@ decreases-members_at l = 6 * l.steps + 5
 
 abbrev pub invariant-put_in-loop-i : goal.invariant-put_in-loop-i
 invariant-put_in-loop-i l =
-    and_then (Some (shown_members l.members)) (put_in (meaning l.definitions l.steps) (shown l.scope) l.number (drop l.i l.names) (drop l.i l.places))
-    ≡ put_in (meaning l.definitions l.steps) (shown l.scope) l.number (out-SequenceOrSet l.layer).components_of (out-SequenceOrSet l.layer).components_at
+    (m : ℕ) → and_then (Some (shown_members l.members)) (put_in (meaning l.names.definitions.now (l.steps + m)) (shown l.scope) l.number (drop l.i l.included) (drop l.i l.places))
+    ≡ put_in (meaning l.names.definitions.now (l.steps + m)) (shown l.scope) l.number (out-SequenceOrSet l.layer).components_of (out-SequenceOrSet l.layer).components_at
 
 abbrev pub invariant-members_at-loop-number : goal.invariant-members_at-loop-number
 invariant-members_at-loop-number l =
-    and_then (Some (shown_members l.members)) (from (meaning l.definitions l.steps) (shown l.scope) (out-SequenceOrSet l.layer) l.number)
-    ≡ members_at (meaning l.definitions l.steps) (shown l.scope) (out-SequenceOrSet l.layer)
+    (m : ℕ) → and_then (Some (shown_members l.members)) (from (meaning l.names.definitions.now (l.steps + m)) (shown l.scope) (out-SequenceOrSet l.layer) l.number)
+    ≡ members_at (meaning l.names.definitions.now (l.steps + m)) (shown l.scope) (out-SequenceOrSet l.layer)

@@ -1,4 +1,4 @@
-use Rattle.std.proofs.Common.{◌≡◌, ◌+◌, ◌*◌, drop}
+use Rattle.std.proofs.Common.{◌≡◌, ℕ, ◌+◌, ◌*◌, drop}
 use Rattle.asn_heads.specs.Places.{shown_place}
 use Rattle.asn_shapes.specs.Answers.{known}
 use Rattle.asn_shapes.specs.inner.Fitting.{member_fits}
@@ -44,10 +44,10 @@ decreases-fits_at l = 8 * l.steps + 7
 
 abbrev pub invariant-members_fit-loop-member : goal.invariant-members_fit-loop-member
 invariant-members_fit-loop-member l =
-    both (known l.answer) (from (member_fits (meaning l.definitions l.steps)) (shown_fields l.fields) (drop l.member-index l.members))
-    ≡ from (member_fits (meaning l.definitions l.steps)) (shown_fields l.fields) l.members
+    (m : ℕ) → both (known l.answer) (from (member_fits (meaning l.names.definitions.now (l.steps + m))) (shown_fields l.fields.fields.now) (drop l.member-index l.members))
+    ≡ from (member_fits (meaning l.names.definitions.now (l.steps + m))) (shown_fields l.fields.fields.now) l.members
 
 abbrev pub invariant-elements_fit-loop-element : goal.invariant-elements_fit-loop-element
 invariant-elements_fit-loop-element l =
-    both (known l.answer) (trees_judged ((meaning l.definitions l.steps).fits (shown_place l.place)) (shown_trees (drop l.element-index l.elements)))
-    ≡ trees_judged ((meaning l.definitions l.steps).fits (shown_place l.place)) (shown_trees l.elements)
+    (m : ℕ) → both (known l.answer) (trees_judged ((meaning l.names.definitions.now (l.steps + m)).fits (shown_place l.place)) (shown_trees (drop l.element-index l.elements)))
+    ≡ trees_judged ((meaning l.names.definitions.now (l.steps + m)).fits (shown_place l.place)) (shown_trees l.elements)
