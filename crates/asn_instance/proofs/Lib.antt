@@ -1,0 +1,14 @@
+pub mod Holding
+pub mod Pairs
+pub mod Forms
+pub mod Below
+pub mod KeptSets
+pub mod KeptConstraints
+pub mod KeptParts
+pub mod KeptHeads
+pub mod KeptInner
+pub mod KeptElements
+pub mod KeptTypes
+pub mod KeptSteps
+pub mod Kept
+pub mod Literals

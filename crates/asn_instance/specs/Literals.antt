@@ -1,0 +1,77 @@
+-- One way to write values: literals and the names of items stay, and a name whose tree has no parts becomes a literal or the
+-- name of an item.
+use Rattle.std.specs.Prelude.{ℤ, Bool, true, false, ◌&&◌, ◌||◌, ℕ, is_none, is_some, List, Option, Some, None, if◌then◌else◌}
+use Rattle.std.specs.List.{find}
+use Rattle.asn_kinds.specs.declared.types.Enumeral.{Enumeral}
+use Rattle.asn_tree.specs.declared.values.ASN1Value.{ASN1Value}
+use Rattle.asn_tree.specs.declared.values.ASN1Value.TheVariants as value
+use Rattle.asn_meaning.specs.Answers.{Yes, once, Answer, No, Denotation, Denoted}
+use Rattle.asn_meaning.specs.Kinds.{Kind, NullKind, BooleanKind, IntegerKind, BitStringKind, OctetStringKind, EnumeratedKind, FieldKind, ReferenceKind, SelectionKind, kind_of}
+use Rattle.asn_meaning.specs.Meaning.{Meaning}
+use Rattle.asn_meaning.specs.Members.{item_named}
+use Rattle.asn_meaning.specs.Scopes.{Scope, bound_to, Place}
+use Rattle.asn_meaning.specs.ValueTrees.{ValueTree, NullValue, TruthValue, WholeNumber, ItemNumber, Bits, Octets, same_number}
+use Rattle.asn_meaning.specs.Written.{Written, AllWritten, NullWritten, TruthWritten, NumberWritten, RealWritten, TextWritten, BitsWritten, BitNamesWritten, OctetsWritten, NameWritten, as_written}
+use Rattle.asn_instance.specs.Subjects.{Choices}
+use Rattle.asn_instance.specs.Tables.{table_bound}
+
+-- a value that holds neither a name nor another value; the names of bits stay
+abbrev pub is_literal : Written → Bool
+is_literal AllWritten = true
+is_literal NullWritten = true
+is_literal (TruthWritten b) = true
+is_literal (NumberWritten i) = true
+is_literal (RealWritten x) = true
+is_literal (TextWritten s) = true
+is_literal (BitsWritten bits) = true
+is_literal (BitNamesWritten names) = true
+is_literal (OctetsWritten octets) = true
+is_literal _ = false
+
+-- a type that is a head whatever is known
+abbrev pub is_own_head : Kind → Bool
+is_own_head (ReferenceKind x) = false
+is_own_head (SelectionKind x) = false
+is_own_head (FieldKind x) = false
+is_own_head _ = true
+
+-- the name of an item of the head, which is no dummy
+abbrev pub is_item_name : Scope → Kind → Written → Bool
+is_item_name scope (EnumeratedKind items) (NameWritten None name) = is_none (bound_to scope name) && is_some (item_named items name)
+is_item_name scope _ _ = false
+
+-- an item's name for its number
+abbrev pub item_numbered : List Enumeral → ℤ → Option (List ℕ)
+item_numbered items i = once None (find (λ item. same_number item.index i) items) (λ item. once None (item_named items item.name) (λ k. if same_number k i then Some item.name else None))
+
+-- the literal or item of a tree under a head
+abbrev pub written : Kind → ValueTree → Option ASN1Value
+written NullKind NullValue = Some value.Null
+written BooleanKind (TruthValue b) = Some (value.Boolean b)
+written (IntegerKind numbers) (WholeNumber i) = Some (value.Integer i)
+written (BitStringKind names) (Bits bits) = Some (value.BitString bits)
+written OctetStringKind (Octets octets) = Some (value.OctetString octets)
+written (EnumeratedKind items) (ItemNumber i) = once None (item_numbered items i) (λ name. Some (value.ElsewhereDeclaredValue None name))
+written _ _ = None
+
+abbrev pub written_by_tree : Answer → Denotation ValueTree → Kind → Option ASN1Value
+written_by_tree No (Denoted t) kind = written kind t
+written_by_tree _ _ kind = None
+
+abbrev pub value_written : Meaning → Scope → ASN1Value → Place → Option ASN1Value
+value_written M scope v p =
+    if is_own_head (kind_of p)
+    then (if is_literal (as_written v) || is_item_name scope (kind_of p) (as_written v) then Some v else written_by_tree (M.is_all scope v p) (M.denotes scope v p) (kind_of p))
+    else None
+
+-- a single value; one that stands for ALL becomes ALL
+abbrev pub all_or : Answer → Option ASN1Value → Option ASN1Value
+all_or Yes v = Some value.All
+all_or _ v = v
+
+abbrev pub single_written : Meaning → Scope → ASN1Value → Place → Option ASN1Value
+single_written M scope v p = all_or (M.is_all scope v p) (value_written M scope v p)
+
+-- Content constraints and defaults stay, and such names as are told; a table has the set that the bindings give.
+abbrev pub literals : (Option (List ℕ) → List ℕ → Bool) → Choices
+literals keeps = record { keeps = keeps; value = single_written; end = value_written; default = λ M scope v p. Some v; content = λ M scope c. Some c; table = λ M scope x. Some (table_bound scope x) }

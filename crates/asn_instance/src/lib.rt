@@ -1,0 +1,10 @@
+//! The instance of a type: what linking makes of it, and that it means what the type does in its scope.
+//!
+//! The definitions stand in specs/; this crate has no code but the laws.
+#![tactic(auto)]
+
+mod laws;
+
+pub use laws::{
+    instance_kept, instance_kept_back, linked_types_mean_the_same, literals_kept, substitution,
+};
