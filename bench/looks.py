@@ -15,7 +15,7 @@ import subprocess
 import sys
 import tempfile
 
-from tables import FAMILIES, HERE
+from tables import FAMILIES, usable
 
 KEPT = r"^ L [0-9a-f]*,1$|sys_read \( 0,"
 
@@ -55,9 +55,9 @@ def main(arguments):
     """Prints the table."""
     sizes = [int(word) for word in arguments if word.isdigit()] or [10_000]
     named = [word for word in arguments if not word.isdigit()]
-    program = named[0] if named else os.path.join(HERE, "..", "crates", "asn_figures", "out", "asn_figures")
-    if not os.access(program, os.X_OK) or shutil.which("valgrind") is None:
-        print(f"no valgrind, or no program at {program}: build it with 'rt run' in crates/asn_figures, or name it", file=sys.stderr)
+    program = usable(named, "asn_figures")
+    if program is None or shutil.which("valgrind") is None:
+        print("looks.py: it wants such a program, and valgrind", file=sys.stderr)
         return 2
     print(f"{'family':<32}{'bytes':>9}{'looks':>10}{'looks a byte':>14}")
     with tempfile.TemporaryDirectory() as folder:

@@ -70,11 +70,27 @@ def run(program, source):
         return seconds_used() - start, told.decode().split()
 
 
+def usable(named, crate):
+    """The program that is named, else the built one of the crate; None, told on standard error, where there is none."""
+    program = named[0] if named else os.path.join(HERE, "..", "crates", crate, "out", crate)
+    if not os.access(program, os.X_OK):
+        print(f"no program at {program}: build it with 'rt run' in crates/{crate}, or name it", file=sys.stderr)
+        return None
+    return program
+
+
+def best_run(program, source, text):
+    """The processor seconds of the best of some runs on a text, and the words that the program wrote."""
+    with open(source, "w", encoding="ascii") as out:
+        out.write(text)
+    runs = [run(program, source) for _ in range(RUNS)]
+    return min(seconds for seconds, _ in runs), runs[0][1]
+
+
 def main(arguments):
     """Prints the table."""
-    program = arguments[0] if arguments else os.path.join(HERE, "..", "crates", "asn_figures", "out", "asn_figures")
-    if not os.access(program, os.X_OK):
-        print(f"no program at {program}: build it with 'rt run' in crates/asn_figures, or name it", file=sys.stderr)
+    program = usable(arguments, "asn_figures")
+    if program is None:
         return 2
     print(f"{'family':<32}{'bytes':>9}{'entries a byte':>16}{'ns a byte':>11}{'memory a byte':>15}")
     with tempfile.TemporaryDirectory() as folder:
@@ -82,10 +98,8 @@ def main(arguments):
         for name, make in FAMILIES.items():
             least = None
             for size in SIZES:
-                with open(source, "w", encoding="ascii") as out:
-                    out.write(make(size))
-                length, runs = os.path.getsize(source), [run(program, source) for _ in range(RUNS)]
-                words, best = runs[0][1], min(seconds for seconds, _ in runs)
+                best, words = best_run(program, source, make(size))
+                length = os.path.getsize(source)
                 peak = peak_memory([program], source)
                 least = least or (length, peak)
                 more = length - least[0]
