@@ -1,3 +1,4 @@
+mod Holding
 pub mod Scoping
 pub mod Listing
 pub mod Fields

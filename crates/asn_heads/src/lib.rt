@@ -5,8 +5,8 @@
 //! for want of memory, so that each answer is the one of all further steps, and None means lost for good. A call fails for
 //! nothing else.
 //!
-//! It stands on the trees, on asn_meaning, on asn_index, which tells what a name stands for, and on asn_bindings, which tells what a
-//! template's dummies stand for. It borrows the trees, and shares scopes: entering a template costs one scope, however deep it lies.
+//! It stands on the trees, on asn_meaning, on asn_index, which tells what a name stands for, and on asn_bindings, whose proofs tell
+//! where an argument is missing. It borrows the trees, and shares scopes: entering a template costs one scope, however deep it lies.
 //! Each call is proved to give what its definition says, so that tests ask the definitions themselves.
 #![tactic(auto)]
 
