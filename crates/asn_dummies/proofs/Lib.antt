@@ -1,0 +1,4 @@
+pub mod Handing
+pub mod Informing
+pub mod Circling
+pub mod Arriving

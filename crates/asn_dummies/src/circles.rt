@@ -1,0 +1,110 @@
+//! Names that lead back to themselves, whatever their arguments are: they never arrive at a dummy without an argument.
+
+ghost use Rattle.asn_heads.specs.Places.{shown_place};
+ghost use Rattle.asn_heads.specs.inner.Circles.{arrives, has_dummy, is_circular, is_dummy_of, name_behind, next_name};
+ghost use Rattle.std.specs.List.{list_any};
+ghost use Rattle.std.specs.Option.{option_copied};
+ghost use Rattle.std.specs.Int.{is_power_of_two};
+ghost use Rattle.std.specs.Prelude.{◌≡◌, ◌&&◌};
+
+use crate::names::plain_name_in;
+use asn_heads::{Place, kind_of, kind_of_tree};
+use asn_index::Names;
+use asn_memory::Text;
+use asn_tree::{Parameterization, ParameterizationArgument, ToplevelTypeDefinition};
+
+/// Whether one of the dummies has the name.
+#[tactic(auto, using(asn_heads::proofs::Circling::dummy_first))]
+fn is_among(dummies: &[ParameterizationArgument], name: &str) -> bool
+    ensures { result ≡ list_any (is_dummy_of name.now) dummies.now }
+{
+    for dummy in dummies {
+        if dummy.dummy_reference.as_str() == name {
+            return true;
+        }
+    }
+    false
+}
+
+/// Whether a definition with these parameters has a dummy of the name.
+fn has_dummy(parameters: &Option<Parameterization>, name: &str) -> bool
+    ensures { result ≡ has_dummy parameters.now name.now }
+{
+    match parameters {
+        None => false,
+        Some(template) => is_among(template.parameters.as_slice(), name),
+    }
+}
+
+/// The name that the type of a definition is, where it is none of the definition's dummies.
+fn name_behind<'a>(definition: &'a ToplevelTypeDefinition) -> Option<&'a Text>
+    ensures { option_copied result ≡ name_behind definition.now }
+{
+    match plain_name_in(kind_of_tree(&definition.ty)) {
+        None => None,
+        Some(name) => {
+            if has_dummy(&definition.parameterization, name.as_str()) {
+                None
+            } else {
+                Some(name)
+            }
+        }
+    }
+}
+
+/// The name that the definition of a name leads on to, whatever its arguments are.
+fn next_name<'a>(names: &Names<'a>, name: &Text) -> Option<&'a Text>
+    ensures { option_copied result ≡ next_name names.now.definitions.now name.now }
+{
+    match names.type_named(name.as_str()) {
+        None => None,
+        Some(definition) => name_behind(definition),
+    }
+}
+
+/// Whether a name leads on to itself within so many turns.
+#[tactic(auto, using(asn_heads::proofs::Circling::arrives_not, asn_heads::proofs::Circling::arrives_here, asn_heads::proofs::Circling::arrives_further))]
+fn comes_back<'a>(names: &Names<'a>, name: &'a Text, turns: usize) -> bool
+    ensures { result ≡ arrives names.now.definitions.now name.now turns name.now }
+{
+    let mut at = name;
+    for left in (0..turns).rev() {
+        match next_name(names, at) {
+            None => return false,
+            Some(next) => {
+                if next.as_str() == name.as_str() {
+                    return true;
+                }
+                at = next;
+            }
+        }
+    }
+    false
+}
+
+/// Whether the type at a place is a name, none of the place's dummies, that leads on to itself within so many turns: then it
+/// arrives at no dummy within any number of steps.
+#[tactic(auto, using(asn_heads::proofs::Circling::circular_not, asn_heads::proofs::Circling::circular_bound, asn_heads::proofs::Circling::circular_name))]
+fn is_circular<'a>(names: &Names<'a>, place: &Place<'a>, turns: usize) -> bool
+    ensures { result ≡ is_circular names.now.definitions.now turns (shown_place place.now) }
+{
+    match plain_name_in(kind_of(place.ty)) {
+        None => false,
+        Some(name) => match place.scope.bound_to(name.as_str()) {
+            Some(_) => false,
+            None => comes_back(names, name, turns),
+        },
+    }
+}
+
+/// Whether the type at a place is such a name, asked only where the turns that were gone are a power of two. So asking takes no more
+/// turns in all than twice those that were gone.
+pub(crate) fn is_lost<'a>(names: &Names<'a>, place: &Place<'a>, turns: usize) -> bool
+    ensures { result ≡ (is_power_of_two turns && is_circular names.now.definitions.now turns (shown_place place.now)) }
+{
+    if turns.is_power_of_two() {
+        is_circular(names, place, turns)
+    } else {
+        false
+    }
+}
