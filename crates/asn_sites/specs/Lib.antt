@@ -1,0 +1,4 @@
+pub mod Forms
+pub mod Sites
+pub mod Instances
+pub mod inner
