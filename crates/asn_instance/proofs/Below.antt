@@ -1,5 +1,5 @@
 -- What is known of instances, of sets and of elements, where the types below are kept.
-use Rattle.std.proofs.Common.{Bool, List, None, Option, Some, [], arith, subst, suc, sym, ℕ, ◌++◌, ◌∷◌, ◌≡◌, ◌⊎◌}
+use Rattle.std.proofs.Common.{Bool, List, None, Option, Some, [], arith, subst, suc, sym, ℕ, ◌++◌, ◌+◌, ◌∷◌, ◌≡◌, ◌⊎◌}
 use Rattle.asn_kinds.specs.declared.constraints.SetOperator.{SetOperator}
 use Rattle.asn_tree.specs.declared.constraints.Constraint.{Constraint}
 use Rattle.asn_tree.specs.declared.constraints.ElementOrSetOperation.{ElementOrSetOperation}
@@ -52,16 +52,16 @@ pub record MoreBy (way : Way) (M L : Meaning) : Type 0 where
 module _ (C : Choices) (defs : Definitions) (j : ℕ) where
   -- a type in a scope, and its instance
   abbrev pub Instanced : Bool → Scope → ASN1Type → ASN1Type → Type 0
-  Instanced down scope ty uy = (i : ℕ) × Before C defs j i × ((instance C defs i).of_type down scope ty ≡ Some uy)
+  Instanced down scope ty uy = (floor i : ℕ) × Before C defs j (floor + i) × ((instance C defs floor i).of_type down scope ty ≡ Some uy)
 
   abbrev pub Constrained : Scope → Place → List Constraint → List Constraint → Type 0
-  Constrained scope p cs ds = (i : ℕ) × Before C defs j i × (constraints_made C defs i scope p cs ≡ Some ds)
+  Constrained scope p cs ds = (floor i : ℕ) × Before C defs j (floor + i) × (constraints_made C defs floor i scope p cs ≡ Some ds)
 
   abbrev pub MadeElement : Scope → Subject → SubtypeElement → SubtypeElement → Type 0
-  MadeElement scope s e f = (i : ℕ) × Before C defs j i × ((instance C defs i).of_element scope s e ≡ Some f)
+  MadeElement scope s e f = (floor i : ℕ) × Before C defs j (floor + i) × ((instance C defs floor i).of_element scope s e ≡ Some f)
 
   abbrev pub MadeSet : Scope → Subject → ElementOrSetOperation → ElementOrSetOperation → Type 0
-  MadeSet scope s x y = (i : ℕ) × Before C defs j i × ((instance C defs i).of_set scope s x ≡ Some y)
+  MadeSet scope s x y = (floor i : ℕ) × Before C defs j (floor + i) × ((instance C defs floor i).of_set scope s x ≡ Some y)
 
   abbrev pub MadeOthers : Scope → Subject → List (SetOperator × SubtypeElement) → List (SetOperator × SubtypeElement) → Type 0
   MadeOthers scope s [] [] = Unit {0}
@@ -105,16 +105,20 @@ module _ (C : Choices) (defs others : Definitions) (j : ℕ) where
     pub chain : (scope : Scope) (s : Subject) (x y : ElementOrSetOperation) → MadeSet C defs j scope s x y → Paired way (λ c d. MadeChain C defs j scope s c d) (M.chain x) (L.chain y)
     pub holds : (scope : Scope) (s : Subject) (a b : Parent) (e f : SubtypeElement) (t : ValueTree) → MadeElement C defs j scope s e f → IsOf way s a b → Refined way (M.holds scope a e t) (L.holds Empty b f t)
 
-  -- Types whose instances took this many steps are kept too where only the first constraints are asked of a type beside the
+  -- Types whose instances took this many levels are kept too where only the first constraints are asked of a type beside the
   -- instance, by what `L` tells in one step more.
-  pub record First (way : Way) (M L : Meaning) (i : ℕ) : Type 0 where
-    pub head : (down : Bool) (scope : Scope) (ty uy ry : ASN1Type) → (instance C defs i).of_type down scope ty ≡ Some uy → Beside (out-ASN1Type uy) (out-ASN1Type ry) →
+  pub record First (way : Way) (M L : Meaning) (floor i : ℕ) : Type 0 where
+    pub head : (down : Bool) (scope : Scope) (ty uy ry : ASN1Type) → (instance C defs floor i).of_type down scope ty ≡ Some uy → Beside (out-ASN1Type uy) (out-ASN1Type ry) →
         Paired way (λ h k. Alike C defs others j h k) (M.head (place scope ty)) (head_at others L (place Empty ry))
-    pub numbers : (down : Bool) (scope : Scope) (ty uy ry : ASN1Type) (cs ds : List Constraint) → (instance C defs i).of_type down scope ty ≡ Some uy → Beside (out-ASN1Type uy) (out-ASN1Type ry) →
+    pub numbers : (down : Bool) (scope : Scope) (ty uy ry : ASN1Type) (cs ds : List Constraint) → (instance C defs floor i).of_type down scope ty ≡ Some uy → Beside (out-ASN1Type uy) (out-ASN1Type ry) →
         Constrained C defs j scope (place scope ty) cs ds → Known way (M.numbers (place scope ty) cs) (numbers_upto others L (place Empty ry) (own (out-ASN1Type uy) ++ ds))
-    pub accepts : (down : Bool) (scope : Scope) (ty uy ry : ASN1Type) (cs ds : List Constraint) (t : ValueTree) → (instance C defs i).of_type down scope ty ≡ Some uy → Beside (out-ASN1Type uy) (out-ASN1Type ry) →
+    pub accepts : (down : Bool) (scope : Scope) (ty uy ry : ASN1Type) (cs ds : List Constraint) (t : ValueTree) → (instance C defs floor i).of_type down scope ty ≡ Some uy → Beside (out-ASN1Type uy) (out-ASN1Type ry) →
         Constrained C defs j scope (place scope ty) cs ds → Refined way (M.accepts (place scope ty) cs t) (accepts_upto others L (place Empty ry) (own (out-ASN1Type uy) ++ ds) t)
 
--- one step fewer
-pub fewer : (C : Choices) (defs : Definitions) (j i : ℕ) → Before C defs j (suc i) → Before C defs j i
-fewer C defs j i (d, e) = (suc d, omega (arith, e))
+-- the steps of an instance are fewer too
+pub floor_before : (C : Choices) (defs : Definitions) (j floor i : ℕ) → Before C defs j (floor + i) → Before C defs j floor
+floor_before C defs j floor i (d, e) = (d + i, omega (arith, e))
+
+-- one level fewer
+pub fewer : (C : Choices) (defs : Definitions) (j floor i : ℕ) → Before C defs j (floor + suc i) → Before C defs j (floor + i)
+fewer C defs j floor i (d, e) = (suc d, omega (arith, e))

@@ -58,9 +58,9 @@ lists_append (c ∷ cs) ds f = ap (list_at (out-Constraint c)) (lists_append cs 
 
 -- ---- constraints that follow a layer's own
 
--- a layer that has place for constraints, and these are its own; or a head under which every constraint says yes
+-- a layer that has place for constraints, and these are its own; or a head without such a place, under which every constraint says yes
 abbrev pub Owns : TypeLayer → List Constraint → Type 0
-Owns r cs = (own r ≡ cs) ⊎ ((is_free_kind (kind_at r) ≡ true) × ((defs : Definitions) (M : Meaning) (scope : Scope) → lead_at defs M scope (kind_at r) ≡ IsHead))
+Owns r cs = (own r ≡ cs) ⊎ ((is_free_kind (kind_at r) ≡ true) × ((defs : Definitions) (M : Meaning) (scope : Scope) → lead_at defs M scope (kind_at r) ≡ IsHead) × (own r ≡ []))
 
 pub record Followed (l : TypeLayer) (zs : List Constraint) (r : TypeLayer) : Type 0 where
   pub beside : lists_in zs ≡ [] → Beside l r
@@ -83,9 +83,9 @@ followed (ASN1Type-F.SequenceOf x) zs =
 followed (ASN1Type-F.SetOf x) zs =
     let e = out-roll-SequenceOrSetOf (record (out-SequenceOrSetOf x) { constraints = (out-SequenceOrSetOf x).constraints ++ zs }) in
     record { beside = λ f. (_, refl, ap (λ z. lists_in z.constraints) e ∙ lists_append _ zs f); owns = inl (ap (λ z. z.constraints) e) }
-followed ASN1Type-F.ASN1Type::Null zs = record { beside = λ f. ([], refl, refl); owns = inr (refl, λ defs M scope. refl) }
-followed ASN1Type-F.EmbeddedPdv zs = record { beside = λ f. ([], refl, refl); owns = inr (refl, λ defs M scope. refl) }
-followed ASN1Type-F.External zs = record { beside = λ f. ([], refl, refl); owns = inr (refl, λ defs M scope. refl) }
+followed ASN1Type-F.ASN1Type::Null zs = record { beside = λ f. ([], refl, refl); owns = inr (refl, (λ defs M scope. refl), refl) }
+followed ASN1Type-F.EmbeddedPdv zs = record { beside = λ f. ([], refl, refl); owns = inr (refl, (λ defs M scope. refl), refl) }
+followed ASN1Type-F.External zs = record { beside = λ f. ([], refl, refl); owns = inr (refl, (λ defs M scope. refl), refl) }
 followed l zs = record { beside = λ f. (own l ++ zs, refl, lists_append (own l) zs f); owns = inl refl }
 
 -- ---- where a layer leads does not change with its constraints
@@ -154,34 +154,34 @@ pub blind_beside : {A : Type 0} (f : Kind → A) → Blind f → ((x y : Referen
 blind_beside f b r l u s = same_kind f b r (kind_at l) (kind_at u) (kind_beside l u s)
 
 module _ (C : Choices) (defs : Definitions) where
-  pub form_blind : {A : Type 0} (f : Kind → A) → Blind f → (k : ℕ) (scope : Scope) (a c : Kind) → KindForm C defs k scope a c → f c ≡ f a
-  form_blind f b k scope (StructKind x) c (y, e, p) = ap f e ∙ b.structs y x
-  form_blind f b k scope (ListKind x) c (y, e, p) = ap f e ∙ b.lists y x
-  form_blind f b k scope (ChoiceKind x) c (y, e, p) = ap f e ∙ b.choices y x
-  form_blind f b k scope (FieldKind x) c (y, e) = ap f e ∙ b.fields y x
-  form_blind f b k scope (ReferenceKind x) c p = absurd p
-  form_blind f b k scope (SelectionKind x) c p = absurd p
-  form_blind f b k scope _ c e = ap f e
+  pub form_blind : {A : Type 0} (f : Kind → A) → Blind f → (floor k : ℕ) (scope : Scope) (a c : Kind) → KindForm C defs floor k scope a c → f c ≡ f a
+  form_blind f b floor k scope (StructKind x) c (y, e, p) = ap f e ∙ b.structs y x
+  form_blind f b floor k scope (ListKind x) c (y, e, p) = ap f e ∙ b.lists y x
+  form_blind f b floor k scope (ChoiceKind x) c (y, e, p) = ap f e ∙ b.choices y x
+  form_blind f b floor k scope (FieldKind x) c (y, e) = ap f e ∙ b.fields y x
+  form_blind f b floor k scope (ReferenceKind x) c p = absurd p
+  form_blind f b floor k scope (SelectionKind x) c p = absurd p
+  form_blind f b floor k scope _ c e = ap f e
 
   pub alike_blind : (others : Definitions) {A : Type 0} (f : Kind → A) → Blind f → (j : ℕ) (h k : Place) → Alike C defs others j h k → f (kind_of k) ≡ f (kind_of h)
   alike_blind others f b j h k (inl (e, s)) = ap (λ z. f (kind_of z)) (sym e)
-  alike_blind others f b j h k (inr (s, (i, n, p))) = form_blind f b i h.scope (kind_of h) (kind_of k) p
+  alike_blind others f b j h k (inr (s, (floor, i, n, p))) = form_blind f b floor i h.scope (kind_of h) (kind_of k) p
 
-  same_struct : (k : ℕ) (scope : Scope) (x y z : StructLayer) → MadeStruct C defs k scope x y → z.components_of ≡ y.components_of → z.extensible ≡ y.extensible → z.members ≡ y.members → MadeStruct C defs k scope x z
-  same_struct k scope x y z (e, (ms, f, p)) components extensible members =
-      (components ∙ e, (ms, f, subst (λ u. MadeMembers C defs k u 0 ms z.members) (sym extensible) (subst (λ u. MadeMembers C defs k y.extensible 0 ms u) (sym members) p)))
+  same_struct : (floor k : ℕ) (scope : Scope) (x y z : StructLayer) → MadeStruct C defs floor k scope x y → z.components_of ≡ y.components_of → z.extensible ≡ y.extensible → z.members ≡ y.members → MadeStruct C defs floor k scope x z
+  same_struct floor k scope x y z (e, (ms, f, p)) components extensible members =
+      (components ∙ e, (ms, f, subst (λ u. MadeMembers C defs floor k u 0 ms z.members) (sym extensible) (subst (λ u. MadeMembers C defs floor k y.extensible 0 ms u) (sym members) p)))
 
-  form_same : (k : ℕ) (scope : Scope) (a b c : Kind) → KindForm C defs k scope a b → SameKind b c → KindForm C defs k scope a c
-  form_same k scope (StructKind x) b c (y, e, p) s =
+  form_same : (floor k : ℕ) (scope : Scope) (a b c : Kind) → KindForm C defs floor k scope a b → SameKind b c → KindForm C defs floor k scope a c
+  form_same floor k scope (StructKind x) b c (y, e, p) s =
       let q = subst (λ u. SameKind u c) e s in
-      (q.0, q.1, same_struct k scope x y q.0 p q.2 q.3 q.4)
-  form_same k scope (ListKind x) b c (y, e, p) s = (y, subst (λ u. SameKind u c) e s, p)
-  form_same k scope (ChoiceKind x) b c (y, e, p) s = (y, subst (λ u. SameKind u c) e s, p)
-  form_same k scope (FieldKind x) b c (y, e) s = subst (λ u. SameKind u c) e s
-  form_same k scope (ReferenceKind x) b c p s = absurd p
-  form_same k scope (SelectionKind x) b c p s = absurd p
-  form_same k scope _ b c e s = subst (λ u. SameKind u c) e s
+      (q.0, q.1, same_struct floor k scope x y q.0 p q.2 q.3 q.4)
+  form_same floor k scope (ListKind x) b c (y, e, p) s = (y, subst (λ u. SameKind u c) e s, p)
+  form_same floor k scope (ChoiceKind x) b c (y, e, p) s = (y, subst (λ u. SameKind u c) e s, p)
+  form_same floor k scope (FieldKind x) b c (y, e) s = subst (λ u. SameKind u c) e s
+  form_same floor k scope (ReferenceKind x) b c p s = absurd p
+  form_same floor k scope (SelectionKind x) b c p s = absurd p
+  form_same floor k scope _ b c e s = subst (λ u. SameKind u c) e s
 
   -- a form with other constraints is one
-  pub form_beside : (k : ℕ) (scope : Scope) (a : Kind) (r u : TypeLayer) → KindForm C defs k scope a (kind_at r) → Beside r u → KindForm C defs k scope a (kind_at u)
-  form_beside k scope a r u p s = form_same k scope a (kind_at r) (kind_at u) p (kind_beside r u s)
+  pub form_beside : (floor k : ℕ) (scope : Scope) (a : Kind) (r u : TypeLayer) → KindForm C defs floor k scope a (kind_at r) → Beside r u → KindForm C defs floor k scope a (kind_at u)
+  form_beside floor k scope a r u p s = form_same floor k scope a (kind_at r) (kind_at u) p (kind_beside r u s)

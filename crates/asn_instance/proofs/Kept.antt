@@ -49,7 +49,7 @@ module _ (defs : Definitions) (M N : Meaning) (m : More M N) where
 
 -- ---- heads and members that lead nowhere
 
-step_heads : (defs : Definitions) (N : Meaning) (p : Place) → ((O : Meaning) → lead defs O p ≡ IsHead) → (step defs N).head p ≡ Some p
+pub step_heads : (defs : Definitions) (N : Meaning) (p : Place) → ((O : Meaning) → lead defs O p ≡ IsHead) → (step defs N).head p ≡ Some p
 unfolding step
 step_heads defs N p f = ap (head_from N p) (f N)
 
@@ -135,7 +135,7 @@ module _ (C : Choices) (defs others : Definitions) (k : ℕ) (linked : SameOrLin
   Lower n = Below C defs others j Forth (meaning defs n) (right others j n)
 
   abbrev Firsts : ℕ → Type 0
-  Firsts n = (i : ℕ) → Before C defs j i → First C defs others j Forth (meaning defs n) (right others j n) i
+  Firsts n = (floor i : ℕ) → Before C defs j (floor + i) → First C defs others j Forth (meaning defs n) (right others j n) floor i
 
   knows : (n : ℕ) → others ≡ defs → MoreBy Forth (meaning defs n) (right others j n)
   knows n same =
@@ -195,7 +195,7 @@ module _ (C : Choices) (defs others : Definitions) (k : ℕ) (linked : SameOrLin
       (λ scope s a b e f t m o. subst (λ z. Refined Forth z ((right others j zero).holds Empty b f t)) (sym (nothing_holds defs scope a e t)) tt)
 
   firsts_zero : Firsts zero
-  firsts_zero i before = record {
+  firsts_zero floor i before = record {
     head = λ down scope ty uy ry e s. subst (λ z. Paired Forth (λ h k. Alike C defs others j h k) z (head_at others (right others j zero) (place Empty ry))) (sym (nothing_head defs (place scope ty))) tt;
     numbers = λ down scope ty uy ry cs ds e s c. subst (λ z. Known Forth z (numbers_upto others (right others j zero) (place Empty ry) (own (out-ASN1Type uy) ++ ds))) (sym (nothing_numbers defs (place scope ty) cs)) tt;
     accepts = λ down scope ty uy ry cs ds t e s c. subst (λ z. Refined Forth z (accepts_upto others (right others j zero) (place Empty ry) (own (out-ASN1Type uy) ++ ds) t)) (sym (nothing_accepts defs (place scope ty) cs t)) tt;
@@ -203,34 +203,34 @@ module _ (C : Choices) (defs others : Definitions) (k : ℕ) (linked : SameOrLin
 
   module _ (n : ℕ) (b : Lower n) (firsts : Firsts n) where
     -- one step further, asked of a type beside the instance
-    next_first : (i : ℕ) → Before C defs j i → First C defs others j Forth (step defs (meaning defs n)) (right others j n) i
+    next_first : (floor i : ℕ) → Before C defs j (floor + i) → First C defs others j Forth (step defs (meaning defs n)) (right others j n) floor i
     unfolding step
-    next_first zero before = record {
-      head = λ down scope ty uy ry e s. absurd (no_type C defs others j down scope ty uy e);
-      numbers = λ down scope ty uy ry cs ds e s c. absurd (no_type C defs others j down scope ty uy e);
-      accepts = λ down scope ty uy ry cs ds t e s c. absurd (no_type C defs others j down scope ty uy e);
+    next_first floor zero before = record {
+      head = λ down scope ty uy ry e s. absurd (no_type C defs others j floor down scope ty uy e);
+      numbers = λ down scope ty uy ry cs ds e s c. absurd (no_type C defs others j floor down scope ty uy e);
+      accepts = λ down scope ty uy ry cs ds t e s c. absurd (no_type C defs others j floor down scope ty uy e);
     }
-    next_first (suc i) before =
-        let less = fewer C defs j i before in
+    next_first floor (suc i) before =
+        let less = fewer C defs j floor i before in
         record {
-          head = λ down scope ty uy ry e s. type_head C defs others j Forth (meaning defs n) (right others j n) b i less (firsts i less) down scope ty uy ry (suc i, before, e) s (viewed C defs others j linked i down scope ty uy e);
-          numbers = λ down scope ty uy ry cs ds e s c. made_numbers C defs others j Forth (meaning defs n) (right others j n) b i less (firsts i less) down scope ty uy ry (suc i, before, e) s cs ds c (viewed C defs others j linked i down scope ty uy e);
-          accepts = λ down scope ty uy ry cs ds t e s c. made_accepts C defs others j Forth (meaning defs n) (right others j n) b i less (firsts i less) down scope ty uy ry (suc i, before, e) s cs ds c t (viewed C defs others j linked i down scope ty uy e);
+          head = λ down scope ty uy ry e s. type_head C defs others j Forth (meaning defs n) (right others j n) b floor i less (firsts floor i less) down scope ty uy ry (floor, suc i, before, e) s (viewed C defs others j linked floor i down scope ty uy e);
+          numbers = λ down scope ty uy ry cs ds e s c. made_numbers C defs others j Forth (meaning defs n) (right others j n) b floor i less (firsts floor i less) down scope ty uy ry (floor, suc i, before, e) s cs ds c (viewed C defs others j linked floor i down scope ty uy e);
+          accepts = λ down scope ty uy ry cs ds t e s c. made_accepts C defs others j Forth (meaning defs n) (right others j n) b floor i less (firsts floor i less) down scope ty uy ry (floor, suc i, before, e) s cs ds c t (viewed C defs others j linked floor i down scope ty uy e);
         }
 
     lower_next : Lower (suc n)
     unfolding meaning step right
     lower_next = lower (suc n)
-        (λ down scope ty uy ry m s. (next_first m.0 m.1).head down scope ty uy ry m.2 s)
-        (λ down scope ty uy cs ds m c. (next_first m.0 m.1).numbers down scope ty uy uy cs ds m.2 (same_beside (out-ASN1Type uy)) c)
-        (λ down scope ty uy cs ds t m c. (next_first m.0 m.1).accepts down scope ty uy uy cs ds t m.2 (same_beside (out-ASN1Type uy)) c)
+        (λ down scope ty uy ry m s. (next_first m.0 m.1 m.2).head down scope ty uy ry m.3 s)
+        (λ down scope ty uy cs ds m c. (next_first m.0 m.1 m.2).numbers down scope ty uy uy cs ds m.3 (same_beside (out-ASN1Type uy)) c)
+        (λ down scope ty uy cs ds t m c. (next_first m.0 m.1 m.2).accepts down scope ty uy uy cs ds t m.3 (same_beside (out-ASN1Type uy)) c)
         (λ scope s x y m. chain_made C defs others j Forth (meaning defs n) (right others j n) b scope s x y m)
         (λ scope s p q e f t m o. element_holds C defs others j Forth (meaning defs n) (right others j n) b scope s p q e f t m o)
 
     firsts_next : Firsts (suc n)
     unfolding meaning step right
-    firsts_next i before =
-        let f = next_first i before in
+    firsts_next floor i before =
+        let f = next_first floor i before in
         let L = right others j n in
         record {
           head = λ down scope ty uy ry e s. paired_later (λ h k. Alike C defs others j h k) _ _ _ (f.head down scope ty uy ry e s) (head_at_more L (step others L) (knows_next n) others (place Empty ry));
@@ -241,6 +241,9 @@ module _ (C : Choices) (defs others : Definitions) (k : ℕ) (linked : SameOrLin
   forth : (n : ℕ) → Lower n × Firsts n
   forth zero = (lower_zero, firsts_zero)
   forth (suc n) = let f = forth n in (lower_next n f.0 f.1, firsts_next n f.0 f.1)
+
+pub below_forth : (C : Choices) (defs others : Definitions) (k : ℕ) → SameOrLinked C defs others (suc k) → KeepsValues C defs others (suc k) → (n : ℕ) → Below C defs others (suc k) Forth (meaning defs n) (meaning others (n + suc k))
+below_forth C defs others k linked values n = subst (λ z. Below C defs others (suc k) Forth (meaning defs n) z) (right_is others (suc k) n) (forth C defs others k linked values n).0
 
 -- ---- back
 
@@ -331,30 +334,30 @@ module _ (C : Choices) (defs others : Definitions) (k : ℕ) (linked : SameOrLin
       (λ scope s a b e f t i o. subst (λ z. Refined Back ((meaning defs m).holds scope a e t) z) (sym (nothing_holds others Empty b f t)) tt)
 
   module _ (n : ℕ) (uppers : (m : ℕ) → Enough n m → Upper n m) where
-    -- types whose instances took `i` steps, each name within one step more
-    back_first : (i m : ℕ) → Before C defs beyond i → (d : ℕ) → d + i + steps_back beyond n ≡ m → First C defs others beyond Back (meaning defs m) (meaning others n) i
+    -- types whose instances took `i` levels, each name within one step more
+    back_first : (floor i m : ℕ) → Before C defs beyond (floor + i) → (d : ℕ) → d + i + steps_back beyond n ≡ m → First C defs others beyond Back (meaning defs m) (meaning others n) floor i
     unfolding meaning step
-    back_first zero m before d e = record {
-      head = λ down scope ty uy ry e s. absurd (no_type C defs others beyond down scope ty uy e);
-      numbers = λ down scope ty uy ry cs ds e s c. absurd (no_type C defs others beyond down scope ty uy e);
-      accepts = λ down scope ty uy ry cs ds t e s c. absurd (no_type C defs others beyond down scope ty uy e);
+    back_first floor zero m before d e = record {
+      head = λ down scope ty uy ry e s. absurd (no_type C defs others beyond floor down scope ty uy e);
+      numbers = λ down scope ty uy ry cs ds e s c. absurd (no_type C defs others beyond floor down scope ty uy e);
+      accepts = λ down scope ty uy ry cs ds t e s c. absurd (no_type C defs others beyond floor down scope ty uy e);
     }
-    back_first (suc i) zero before d e = absurd (omega (arith, e))
-    back_first (suc i) (suc m) before d e =
-        let less = fewer C defs beyond i before in
+    back_first floor (suc i) zero before d e = absurd (omega (arith, e))
+    back_first floor (suc i) (suc m) before d e =
+        let less = fewer C defs beyond floor i before in
         let f : d + i + steps_back beyond n ≡ m = omega (arith, e) in
         let b = uppers m (d + i, f) in
-        let first = back_first i m less d f in
+        let first = back_first floor i m less d f in
         record {
-          head = λ down scope ty uy ry e s. type_head C defs others beyond Back (meaning defs m) (meaning others n) b i less first down scope ty uy ry (suc i, before, e) s (viewed C defs others beyond linked i down scope ty uy e);
-          numbers = λ down scope ty uy ry cs ds e s c. made_numbers C defs others beyond Back (meaning defs m) (meaning others n) b i less first down scope ty uy ry (suc i, before, e) s cs ds c (viewed C defs others beyond linked i down scope ty uy e);
-          accepts = λ down scope ty uy ry cs ds t e s c. made_accepts C defs others beyond Back (meaning defs m) (meaning others n) b i less first down scope ty uy ry (suc i, before, e) s cs ds c t (viewed C defs others beyond linked i down scope ty uy e);
+          head = λ down scope ty uy ry e s. type_head C defs others beyond Back (meaning defs m) (meaning others n) b floor i less first down scope ty uy ry (floor, suc i, before, e) s (viewed C defs others beyond linked floor i down scope ty uy e);
+          numbers = λ down scope ty uy ry cs ds e s c. made_numbers C defs others beyond Back (meaning defs m) (meaning others n) b floor i less first down scope ty uy ry (floor, suc i, before, e) s cs ds c (viewed C defs others beyond linked floor i down scope ty uy e);
+          accepts = λ down scope ty uy ry cs ds t e s c. made_accepts C defs others beyond Back (meaning defs m) (meaning others n) b floor i less first down scope ty uy ry (floor, suc i, before, e) s cs ds c t (viewed C defs others beyond linked floor i down scope ty uy e);
         }
 
-    first_at : (m i : ℕ) → Enough (suc n) m → Before C defs beyond i → First C defs others beyond Back (meaning defs m) (meaning others n) i
-    first_at m i (d, e) (c, f) =
-        let g : (d + suc c) + i + steps_back beyond n ≡ m = omega (arith, e, f, steps_more beyond n) in
-        back_first i m (c, f) (d + suc c) g
+    first_at : (m floor i : ℕ) → Enough (suc n) m → Before C defs beyond (floor + i) → First C defs others beyond Back (meaning defs m) (meaning others n) floor i
+    first_at m floor i (d, e) (c, f) =
+        let g : (d + suc (c + floor)) + i + steps_back beyond n ≡ m = omega (arith, e, f, steps_more beyond n) in
+        back_first floor i m (c, f) (d + suc (c + floor)) g
 
     upper_next : (m : ℕ) → Enough (suc n) m → Upper (suc n) m
     unfolding meaning step
@@ -363,9 +366,9 @@ module _ (C : Choices) (defs others : Definitions) (k : ℕ) (linked : SameOrLin
         let f : (d + k) + steps_back beyond n ≡ m = omega (arith, e, steps_more beyond n) in
         let b = uppers m (d + k, f) in
         upper (suc n) (suc m) (d, e)
-        (λ down scope ty uy ry i s. (first_at (suc m) i.0 (d, e) i.1).head down scope ty uy ry i.2 s)
-        (λ down scope ty uy cs ds i c. (first_at (suc m) i.0 (d, e) i.1).numbers down scope ty uy uy cs ds i.2 (same_beside (out-ASN1Type uy)) c)
-        (λ down scope ty uy cs ds t i c. (first_at (suc m) i.0 (d, e) i.1).accepts down scope ty uy uy cs ds t i.2 (same_beside (out-ASN1Type uy)) c)
+        (λ down scope ty uy ry i s. (first_at (suc m) i.0 i.1 (d, e) i.2).head down scope ty uy ry i.3 s)
+        (λ down scope ty uy cs ds i c. (first_at (suc m) i.0 i.1 (d, e) i.2).numbers down scope ty uy uy cs ds i.3 (same_beside (out-ASN1Type uy)) c)
+        (λ down scope ty uy cs ds t i c. (first_at (suc m) i.0 i.1 (d, e) i.2).accepts down scope ty uy uy cs ds t i.3 (same_beside (out-ASN1Type uy)) c)
         (λ scope s x y i. chain_made C defs others beyond Back (meaning defs m) (meaning others n) b scope s x y i)
         (λ scope s p q e f t i o. element_holds C defs others beyond Back (meaning defs m) (meaning others n) b scope s p q e f t i o)
 
@@ -375,22 +378,22 @@ module _ (C : Choices) (defs others : Definitions) (k : ℕ) (linked : SameOrLin
 
 -- ---- the laws
 
-pub instance_kept : (C : Choices) (defs others : Definitions) (k : ℕ) → SameOrLinked C defs others (suc k) → KeepsValues C defs others (suc k) →
-    (n : ℕ) (down : Bool) (scope : Scope) (ty uy : ASN1Type) (t : ValueTree) → (instance C defs k).of_type down scope ty ≡ Some uy →
-    Refines (judge defs n scope ty t) (judge others (n + suc k) Empty uy t)
-instance_kept C defs others k linked values n down scope ty uy t e =
-    let b = (forth C defs others k linked values n).0 in
-    let f : k + suc zero ≡ suc k = omega arith in
-    subst (λ z. Refines (judge defs n scope ty t) (z.accepts (place Empty uy) [] t)) (right_is others (suc k) n) (b.accepts down scope ty uy [] [] t (k, (zero, f), e) (k, (zero, f), refl))
+pub instance_kept : (C : Choices) (defs others : Definitions) (n k : ℕ) → SameOrLinked C defs others (suc (n + k)) → KeepsValues C defs others (suc (n + k)) →
+    (m : ℕ) (down : Bool) (scope : Scope) (ty uy : ASN1Type) (t : ValueTree) → (instance C defs n k).of_type down scope ty ≡ Some uy →
+    Refines (judge defs m scope ty t) (judge others (m + suc (n + k)) Empty uy t)
+instance_kept C defs others n k linked values m down scope ty uy t e =
+    let b = (forth C defs others (n + k) linked values m).0 in
+    let f : n + k + suc zero ≡ suc (n + k) = omega arith in
+    subst (λ z. Refines (judge defs m scope ty t) (z.accepts (place Empty uy) [] t)) (right_is others (suc (n + k)) m) (b.accepts down scope ty uy [] [] t (n, k, (zero, f), e) (n, k, (zero, f), refl))
 
-pub instance_kept_back : (C : Choices) (defs others : Definitions) (k : ℕ) → SameOrLinked C defs others (suc k) → KeepsValuesBack C defs others (suc k) →
-    (n : ℕ) (down : Bool) (scope : Scope) (ty uy : ASN1Type) (t : ValueTree) → (instance C defs k).of_type down scope ty ≡ Some uy →
-    Refines (judge others n Empty uy t) (judge defs (steps_back (suc k) n) scope ty t)
-instance_kept_back C defs others k linked values n down scope ty uy t e =
-    let g : zero + steps_back (suc k) n ≡ steps_back (suc k) n = omega arith in
-    let b = back C defs others k linked values n (steps_back (suc k) n) (zero, g) in
-    let f : k + suc zero ≡ suc k = omega arith in
-    b.accepts down scope ty uy [] [] t (k, (zero, f), e) (k, (zero, f), refl)
+pub instance_kept_back : (C : Choices) (defs others : Definitions) (n k : ℕ) → SameOrLinked C defs others (suc (n + k)) → KeepsValuesBack C defs others (suc (n + k)) →
+    (m : ℕ) (down : Bool) (scope : Scope) (ty uy : ASN1Type) (t : ValueTree) → (instance C defs n k).of_type down scope ty ≡ Some uy →
+    Refines (judge others m Empty uy t) (judge defs (steps_back (suc (n + k)) m) scope ty t)
+instance_kept_back C defs others n k linked values m down scope ty uy t e =
+    let g : zero + steps_back (suc (n + k)) m ≡ steps_back (suc (n + k)) m = omega arith in
+    let b = back C defs others (n + k) linked values m (steps_back (suc (n + k)) m) (zero, g) in
+    let f : n + k + suc zero ≡ suc (n + k) = omega arith in
+    b.accepts down scope ty uy [] [] t (n, k, (zero, f), e) (n, k, (zero, f), refl)
 
 stays_yes : (a b : Answer) → Refines a b → a ≡ Yes → b ≡ Yes
 stays_yes a b p e = subst (λ x. Refines x b) e p
@@ -398,17 +401,17 @@ stays_yes a b p e = subst (λ x. Refines x b) e p
 stays_no : (a b : Answer) → Refines a b → a ≡ No → b ≡ No
 stays_no a b p e = subst (λ x. Refines x b) e p
 
-pub substitution : (C : Choices) (defs others : Definitions) (k : ℕ) → SameOrLinked C defs others (suc k) → KeepsValues C defs others (suc k) → KeepsValuesBack C defs others (suc k) →
-    (down : Bool) (scope : Scope) (ty uy : ASN1Type) (t : ValueTree) → (instance C defs k).of_type down scope ty ≡ Some uy →
+pub substitution : (C : Choices) (defs others : Definitions) (n k : ℕ) → SameOrLinked C defs others (suc (n + k)) → KeepsValues C defs others (suc (n + k)) → KeepsValuesBack C defs others (suc (n + k)) →
+    (down : Bool) (scope : Scope) (ty uy : ASN1Type) (t : ValueTree) → (instance C defs n k).of_type down scope ty ≡ Some uy →
     (Accepts defs scope ty t ↔ Accepts others Empty uy t) × (Rejects defs scope ty t ↔ Rejects others Empty uy t)
-substitution C defs others k linked values values_back down scope ty uy t e = (
+substitution C defs others n k linked values values_back down scope ty uy t e = (
   (
-    λ (n, a). (n + suc k, stays_yes _ _ (instance_kept C defs others k linked values n down scope ty uy t e) a),
-    λ (n, a). (steps_back (suc k) n, stays_yes _ _ (instance_kept_back C defs others k linked values_back n down scope ty uy t e) a),
+    λ (m, a). (m + suc (n + k), stays_yes _ _ (instance_kept C defs others n k linked values m down scope ty uy t e) a),
+    λ (m, a). (steps_back (suc (n + k)) m, stays_yes _ _ (instance_kept_back C defs others n k linked values_back m down scope ty uy t e) a),
   ),
   (
-    λ (n, a). (n + suc k, stays_no _ _ (instance_kept C defs others k linked values n down scope ty uy t e) a),
-    λ (n, a). (steps_back (suc k) n, stays_no _ _ (instance_kept_back C defs others k linked values_back n down scope ty uy t e) a),
+    λ (m, a). (m + suc (n + k), stays_no _ _ (instance_kept C defs others n k linked values m down scope ty uy t e) a),
+    λ (m, a). (steps_back (suc (n + k)) m, stays_no _ _ (instance_kept_back C defs others n k linked values_back m down scope ty uy t e) a),
   ),
 )
 
@@ -432,17 +435,17 @@ plain_is : (defs : Definitions) (name : List ℕ) (d : ToplevelTypeDefinition) �
 plain_is defs name d e f = ap (λ z. once None z (λ d. names.instance Empty d d.parameterization [])) e ∙ ap (λ z. names.instance Empty d z []) f
 
 module _ (C : Choices) (defs others : Definitions) (k : ℕ) (linked : LinkedBy C defs others (suc k)) (values : KeepsValues C defs others (suc k)) (values_back : KeepsValuesBack C defs others (suc k)) where
-  -- an instance of less than so many steps means the same
+  -- an instance of fewer than so many steps means the same
   instanced_kept : (ty uy : ASN1Type) → Instanced C defs (suc k) false Empty ty uy → (n : ℕ) (t : ValueTree) → Refines (judge defs n Empty ty t) (judge others (n + suc k) Empty uy t)
-  instanced_kept ty uy (i, before, e) n t =
+  instanced_kept ty uy (floor, i, before, e) n t =
       let b = (forth C defs others k (inr linked) values n).0 in
-      subst (λ z. Refines (judge defs n Empty ty t) (z.accepts (place Empty uy) [] t)) (right_is others (suc k) n) (b.accepts false Empty ty uy [] [] t (i, before, e) (i, before, refl))
+      subst (λ z. Refines (judge defs n Empty ty t) (z.accepts (place Empty uy) [] t)) (right_is others (suc k) n) (b.accepts false Empty ty uy [] [] t (floor, i, before, e) (floor, i, before, refl))
 
   instanced_back : (ty uy : ASN1Type) → Instanced C defs (suc k) false Empty ty uy → (n : ℕ) (t : ValueTree) → Refines (judge others n Empty uy t) (judge defs (steps_back (suc k) n) Empty ty t)
-  instanced_back ty uy (i, before, e) n t =
+  instanced_back ty uy (floor, i, before, e) n t =
       let g : zero + steps_back (suc k) n ≡ steps_back (suc k) n = omega arith in
       let b = back C defs others k (inr linked) values_back n (steps_back (suc k) n) (zero, g) in
-      b.accepts false Empty ty uy [] [] t (i, before, e) (i, before, refl)
+      b.accepts false Empty ty uy [] [] t (floor, i, before, e) (floor, i, before, refl)
 
   same_trees : (ty uy : ASN1Type) → Instanced C defs (suc k) false Empty ty uy → (t : ValueTree) → (Accepts defs Empty ty t ↔ Accepts others Empty uy t) × (Rejects defs Empty ty t ↔ Rejects others Empty uy t)
   same_trees ty uy u t = (

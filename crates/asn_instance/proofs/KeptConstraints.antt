@@ -1,5 +1,5 @@
 -- Constraints in a row are kept.
-use Rattle.std.proofs.Common.{Bool, List, None, Option, Some, [], ap, false, refl, subst, sym, true, ℕ, ◌++◌, ◌∙◌, ◌∷◌, ◌≡◌}
+use Rattle.std.proofs.Common.{Bool, List, None, Option, Some, [], ap, false, refl, subst, sym, true, ℕ, ◌++◌, ◌+◌, ◌∙◌, ◌∷◌, ◌≡◌}
 use Rattle.std.specs.Prelude.{if◌then◌else◌}
 use Rattle.asn_tree.specs.declared.constraints.Constraint.{Constraint, Constraint-F, out-Constraint, out-roll-Constraint, roll-Constraint}
 use Rattle.asn_meaning.specs.Answers.{Unknown, Yes, both, once}
@@ -18,7 +18,7 @@ use Rattle.asn_instance.specs.Heads.{Alike, Before, constraints_made}
 use Rattle.asn_instance.specs.Instance.{constraint_instance, instance}
 use Rattle.asn_instance.specs.Subjects.{Choices, OnValues, Subject}
 use Rattle.asn_instance.specs.Ways.{Known, Refined, Way}
-use Rattle.asn_instance.proofs.Below.{Below, Constrained}
+use Rattle.asn_instance.proofs.Below.{Below, Constrained, floor_before}
 use Rattle.asn_instance.proofs.Forms.{alike_blind, free_blind, lists_append}
 use Rattle.asn_instance.proofs.Holding.{Holds, once_holds, result_holds, then_holds}
 use Rattle.asn_instance.proofs.KeptSets.{numbers_in_set_kept, set_kept}
@@ -43,18 +43,18 @@ if_same false x = refl
 
 module _ (C : Choices) (defs : Definitions) where
   -- no argument list is left
-  unlisted_one : (i : ℕ) (scope : Scope) (s : Subject) (l : ConstraintLayer) → Holds (constraint_instance C defs (meaning defs i) (instance C defs i) scope s l) (λ ys. lists_in ys ≡ [])
-  unlisted_one i scope s (Constraint-F.SubtypeConstraint x) = once_holds ((instance C defs i).of_set scope s x.set) _ _ (λ set e. ap (λ z. list_at z []) (out-roll-Constraint _))
-  unlisted_one i scope s (Constraint-F.TableConstraint x) = once_holds (C.table (meaning defs i) scope x) _ _ (λ set e. ap (λ z. list_at z []) (out-roll-Constraint _))
-  unlisted_one i scope s (Constraint-F.ContentConstraint x) = once_holds (C.content (meaning defs i) scope x) _ _ (λ set e. ap (λ z. list_at z []) (out-roll-Constraint _))
-  unlisted_one i scope s (Constraint-F.Parameter ps) = refl
+  unlisted_one : (floor i : ℕ) (scope : Scope) (s : Subject) (l : ConstraintLayer) → Holds (constraint_instance C defs (meaning defs floor) (instance C defs floor i) scope s l) (λ ys. lists_in ys ≡ [])
+  unlisted_one floor i scope s (Constraint-F.SubtypeConstraint x) = once_holds ((instance C defs floor i).of_set scope s x.set) _ _ (λ set e. ap (λ z. list_at z []) (out-roll-Constraint _))
+  unlisted_one floor i scope s (Constraint-F.TableConstraint x) = once_holds (C.table (meaning defs floor) scope x) _ _ (λ set e. ap (λ z. list_at z []) (out-roll-Constraint _))
+  unlisted_one floor i scope s (Constraint-F.ContentConstraint x) = once_holds (C.content (meaning defs floor) scope x) _ _ (λ set e. ap (λ z. list_at z []) (out-roll-Constraint _))
+  unlisted_one floor i scope s (Constraint-F.Parameter ps) = refl
 
-  pub unlisted : (i : ℕ) (scope : Scope) (p : Place) (cs : List Constraint) → Holds (constraints_made C defs i scope p cs) (λ ds. lists_in ds ≡ [])
-  unlisted i scope p [] = refl
-  unlisted i scope p (c ∷ cs) =
-      then_holds (once None ((meaning defs i).head p) (λ head. constraint_instance C defs (meaning defs i) (instance C defs i) scope (OnValues head) (out-Constraint c))) _ (λ ys. lists_in ys ≡ []) _
-      (once_holds ((meaning defs i).head p) _ _ (λ g e. unlisted_one i scope (OnValues g) (out-Constraint c))) (λ ys e u.
-      then_holds (constraints_made C defs i scope p cs) _ (λ zs. lists_in zs ≡ []) _ (unlisted i scope p cs) (λ zs f v. lists_append ys zs v ∙ u))
+  pub unlisted : (floor i : ℕ) (scope : Scope) (p : Place) (cs : List Constraint) → Holds (constraints_made C defs floor i scope p cs) (λ ds. lists_in ds ≡ [])
+  unlisted floor i scope p [] = refl
+  unlisted floor i scope p (c ∷ cs) =
+      then_holds (once None ((meaning defs floor).head p) (λ head. constraint_instance C defs (meaning defs floor) (instance C defs floor i) scope (OnValues head) (out-Constraint c))) _ (λ ys. lists_in ys ≡ []) _
+      (once_holds ((meaning defs floor).head p) _ _ (λ g e. unlisted_one floor i scope (OnValues g) (out-Constraint c))) (λ ys e u.
+      then_holds (constraints_made C defs floor i scope p cs) _ (λ zs. lists_in zs ≡ []) _ (unlisted floor i scope p cs) (λ zs f v. lists_append ys zs v ∙ u))
 
 module _ (C : Choices) (defs others : Definitions) (j : ℕ) (way : Way) (M L : Meaning) (b : Below C defs others j way M L) where
   -- a constraint, read by its layer, and the constraints that are made of it
@@ -76,16 +76,16 @@ module _ (C : Choices) (defs others : Definitions) (j : ℕ) (way : Way) (M L : 
           (if_known way (is_free h) (is_free k) x y _ _ same_free w (g x y w));
     }
 
-    one_kept : (i : ℕ) → Before C defs j i → (l : ConstraintLayer) → Holds (constraint_instance C defs (meaning defs i) (instance C defs i) scope (OnValues h) l) (KeptOne scope h k l)
-    one_kept i n (Constraint-F.SubtypeConstraint x) = once_holds ((instance C defs i).of_set scope (OnValues h) x.set) _ _ (λ set e.
+    one_kept : (floor i : ℕ) → Before C defs j (floor + i) → (l : ConstraintLayer) → Holds (constraint_instance C defs (meaning defs floor) (instance C defs floor i) scope (OnValues h) l) (KeptOne scope h k l)
+    one_kept floor i n (Constraint-F.SubtypeConstraint x) = once_holds ((instance C defs floor i).of_set scope (OnValues h) x.set) _ _ (λ set e.
         single_kept (Constraint-F.SubtypeConstraint x) (Constraint-F.SubtypeConstraint (record x { set = set }))
-        (λ u y t w. set_kept C defs others j way M L b scope (OnValues h) (ValuesOf h u) (ValuesOf k y) x.set set t (i, n, e) (refl, (k, y, refl, a, w)))
-        (λ u y w. lifted_known way in_both u y _ _ w (numbers_in_set_kept C defs others j way M L b scope (OnValues h) (ValuesOf h u) (ValuesOf k y) x.set set (i, n, e) (refl, (k, y, refl, a, w)))))
-    one_kept i n (Constraint-F.TableConstraint x) = once_holds (C.table (meaning defs i) scope x) _ _ (λ y e.
+        (λ u y t w. set_kept C defs others j way M L b scope (OnValues h) (ValuesOf h u) (ValuesOf k y) x.set set t (floor, i, n, e) (refl, (k, y, refl, a, w)))
+        (λ u y w. lifted_known way in_both u y _ _ w (numbers_in_set_kept C defs others j way M L b scope (OnValues h) (ValuesOf h u) (ValuesOf k y) x.set set (floor, i, n, e) (refl, (k, y, refl, a, w)))))
+    one_kept floor i n (Constraint-F.TableConstraint x) = once_holds (C.table (meaning defs floor) scope x) _ _ (λ y e.
         single_kept (Constraint-F.TableConstraint x) (Constraint-F.TableConstraint y) (λ u v t w. same_refined way Yes) (λ u v w. w))
-    one_kept i n (Constraint-F.ContentConstraint x) = once_holds (C.content (meaning defs i) scope x) _ _ (λ y e.
+    one_kept floor i n (Constraint-F.ContentConstraint x) = once_holds (C.content (meaning defs floor) scope x) _ _ (λ y e.
         single_kept (Constraint-F.ContentConstraint x) (Constraint-F.ContentConstraint y) (λ u v t w. same_refined way Yes) (λ u v w. w))
-    one_kept i n (Constraint-F.Parameter ps) = record {
+    one_kept floor i n (Constraint-F.Parameter ps) = record {
       answers = λ x y t w. equal_refined way _ Yes (sym (if_same (is_free h) Yes));
       numbers = λ x y w. subst (λ z. Known way z y) (sym (if_same (is_free h) x)) w;
     }
@@ -96,20 +96,20 @@ module _ (C : Choices) (defs others : Definitions) (j : ℕ) (way : Way) (M L : 
     pub answers : (x y : Option Numbers) (t : ValueTree) → Known way x y → Refined way (all_hold M scope h x cs t) (all_hold L Empty k y ds t)
     pub numbers : (x y : Option Numbers) → Known way x y → Known way (narrowed_by_all M scope h x cs) (narrowed_by_all L Empty k y ds)
 
-  module _ (scope : Scope) (p h k : Place) (i : ℕ) (n : Before C defs j i) (found : M.head p ≡ Some h) (a : Alike C defs others j h k) where
+  module _ (scope : Scope) (p h k : Place) (floor i : ℕ) (n : Before C defs j (floor + i)) (found : M.head p ≡ Some h) (a : Alike C defs others j h k) where
     joined_kept : (c : Constraint) (cs ys zs : List Constraint) → KeptOne scope h k (out-Constraint c) ys → KeptAll scope h k cs zs → KeptAll scope h k (c ∷ cs) (ys ++ zs)
     joined_kept c cs ys zs p q = record {
       answers = λ x y t w. subst (λ z. Refined way (all_hold M scope h x (c ∷ cs) t) z) (sym (all_hold_append L Empty k y ys zs t)) (both_refined way _ _ _ _ (p.answers x y t w) (q.answers _ _ t (p.numbers x y w)));
       numbers = λ x y w. subst (λ z. Known way (narrowed_by_all M scope h x (c ∷ cs)) z) (sym (narrowed_append L Empty k y ys zs)) (q.numbers _ _ (p.numbers x y w));
     }
 
-    pub all_kept : (cs : List Constraint) → Holds (constraints_made C defs i scope p cs) (KeptAll scope h k cs)
+    pub all_kept : (cs : List Constraint) → Holds (constraints_made C defs floor i scope p cs) (KeptAll scope h k cs)
     all_kept [] = record { answers = λ x y t w. same_refined way Yes; numbers = λ x y w. w }
     all_kept (c ∷ cs) =
-        then_holds (once None ((meaning defs i).head p) (λ head. constraint_instance C defs (meaning defs i) (instance C defs i) scope (OnValues head) (out-Constraint c))) _ (KeptOne scope h k (out-Constraint c)) _
-        (once_holds ((meaning defs i).head p) _ _ (λ g e.
-        subst (λ z. Holds (constraint_instance C defs (meaning defs i) (instance C defs i) scope (OnValues z) (out-Constraint c)) (KeptOne scope h k (out-Constraint c))) (sym (b.same_head i n p g h e found)) (one_kept scope h k a i n (out-Constraint c)))) (λ ys e u.
-        then_holds (constraints_made C defs i scope p cs) _ (KeptAll scope h k cs) _ (all_kept cs) (λ zs f v. joined_kept c cs ys zs u v))
+        then_holds (once None ((meaning defs floor).head p) (λ head. constraint_instance C defs (meaning defs floor) (instance C defs floor i) scope (OnValues head) (out-Constraint c))) _ (KeptOne scope h k (out-Constraint c)) _
+        (once_holds ((meaning defs floor).head p) _ _ (λ g e.
+        subst (λ z. Holds (constraint_instance C defs (meaning defs floor) (instance C defs floor i) scope (OnValues z) (out-Constraint c)) (KeptOne scope h k (out-Constraint c))) (sym (b.same_head floor (floor_before C defs j floor i n) p g h e found)) (one_kept scope h k a floor i n (out-Constraint c)))) (λ ys e u.
+        then_holds (constraints_made C defs floor i scope p cs) _ (KeptAll scope h k cs) _ (all_kept cs) (λ zs f v. joined_kept c cs ys zs u v))
 
   -- ---- under heads that are found
 
@@ -125,7 +125,7 @@ module _ (C : Choices) (defs others : Definitions) (j : ℕ) (way : Way) (M L : 
   }
 
   all_kept_at : (scope : Scope) (p h k : Place) (cs ds : List Constraint) → M.head p ≡ Some h → Alike C defs others j h k → Constrained C defs j scope p cs ds → KeptAll scope h k cs ds
-  all_kept_at scope p h k cs ds f a (i, n, e) = result_holds (constraints_made C defs i scope p cs) (KeptAll scope h k cs) ds (all_kept scope p h k i n f a cs) e
+  all_kept_at scope p h k cs ds f a (floor, i, n, e) = result_holds (constraints_made C defs floor i scope p cs) (KeptAll scope h k cs) ds (all_kept scope p h k floor i n f a cs) e
 
   abbrev FoundBoth : Place → Place → Place → Place → Type 0
   FoundBoth p r h k = (M.head p ≡ Some h) × (L.head r ≡ Some k) × Alike C defs others j h k

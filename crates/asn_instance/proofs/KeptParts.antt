@@ -1,5 +1,5 @@
 -- The parts of heads that are alike: options, members and elements.
-use Rattle.std.proofs.Common.{Bool, List, None, Option, Some, [], ap, false, inl, inr, refl, subst, suc, sym, true, ℕ, ◌∷◌, ◌≡◌, ◌⊎◌}
+use Rattle.std.proofs.Common.{Bool, List, None, Option, Some, [], ap, false, inl, inr, refl, subst, suc, sym, true, ℕ, ◌+◌, ◌∷◌, ◌≡◌, ◌⊎◌}
 use Rattle.std.specs.Prelude.{is_some}
 use Rattle.std.specs.Str.{bytes_eq}
 use Rattle.asn_tree.specs.declared.types.ASN1Type.{ASN1Type, out-ASN1Type}
@@ -19,7 +19,7 @@ use Rattle.asn_instance.specs.Heads.{Alike, Before, KindForm, MadeMembers, MadeO
 use Rattle.asn_instance.specs.Instance.{instance, member_instance, of_constraints, option_instance, placed_tag}
 use Rattle.asn_instance.specs.Subjects.{Choices, perhaps}
 use Rattle.asn_instance.specs.Ways.{Known, Refined, Way}
-use Rattle.asn_instance.proofs.Below.{Below, Instanced, plain_members}
+use Rattle.asn_instance.proofs.Below.{Below, Instanced, floor_before, plain_members}
 use Rattle.asn_instance.proofs.Forms.{same_beside}
 use Rattle.asn_instance.proofs.Holding.{Holds, once_holds, result_holds}
 use Rattle.asn_instance.proofs.Pairs.{Matched, Paired, if_matched, known_paired, paired_weaker, same_matched}
@@ -76,65 +76,65 @@ module _ (C : Choices) (defs others : Definitions) (j : ℕ) (way : Way) (M L : 
 
   pub stands_numbers : (p q : Place) → Stands C defs others j p q → Known way (M.numbers p []) (L.numbers q [])
   stands_numbers p q (inl (e, same)) = subst (λ z. Known way (M.numbers p []) (L.numbers z [])) e ((b.more same).numbers p [])
-  stands_numbers p q (inr (e, (down, (i, n, u)))) = subst (λ z. Known way (M.numbers p []) (L.numbers (record { scope = z; ty = q.ty }) [])) (sym e) (b.numbers down p.scope p.ty q.ty [] [] (i, n, u) (i, n, refl))
+  stands_numbers p q (inr (e, (down, (floor, i, n, u)))) = subst (λ z. Known way (M.numbers p []) (L.numbers (record { scope = z; ty = q.ty }) [])) (sym e) (b.numbers down p.scope p.ty q.ty [] [] (floor, i, n, u) (floor, i, n, refl))
 
   pub stands_accepts : (p q : Place) (t : ValueTree) → Stands C defs others j p q → Refined way (M.accepts p [] t) (L.accepts q [] t)
   stands_accepts p q t (inl (e, same)) = subst (λ z. Refined way (M.accepts p [] t) (L.accepts z [] t)) e ((b.more same).accepts p [] t)
-  stands_accepts p q t (inr (e, (down, (i, n, u)))) = subst (λ z. Refined way (M.accepts p [] t) (L.accepts (record { scope = z; ty = q.ty }) [] t)) (sym e) (b.accepts down p.scope p.ty q.ty [] [] t (i, n, u) (i, n, refl))
+  stands_accepts p q t (inr (e, (down, (floor, i, n, u)))) = subst (λ z. Refined way (M.accepts p [] t) (L.accepts (record { scope = z; ty = q.ty }) [] t)) (sym e) (b.accepts down p.scope p.ty q.ty [] [] t (floor, i, n, u) (floor, i, n, refl))
 
-  module _ (i : ℕ) (n : Before C defs j i) where
+  module _ (floor i : ℕ) (n : Before C defs j (floor + i)) where
     -- ---- options
 
-    option_kept : (hs : Scope) (o : OptionLayer) → Holds (option_instance C defs (meaning defs i) (instance C defs i) hs o) (λ p. OptionKept C defs others j way M L hs Empty o p)
+    option_kept : (hs : Scope) (o : OptionLayer) → Holds (option_instance C defs (meaning defs floor) (instance C defs floor i) hs o) (λ p. OptionKept C defs others j way M L hs Empty o p)
     option_kept hs o =
-        once_holds ((instance C defs i).of_type false hs o.ty) _ _ (λ ty e. once_holds (of_constraints C defs (meaning defs i) (instance C defs i) hs (place hs o.ty) o.constraints) _ _ (λ cs f.
-        once_holds (placed_tag C defs (meaning defs i) (instance C defs i) hs o.tag o.ty) _ _ (λ tag g.
-        record { name = refl; stands = inr (refl, (false, (i, n, e))); accepts = λ t. b.accepts false hs o.ty ty o.constraints cs t (i, n, e) (i, n, f) })))
+        once_holds ((instance C defs floor i).of_type false hs o.ty) _ _ (λ ty e. once_holds (of_constraints C defs (meaning defs floor) (instance C defs floor i) hs (place hs o.ty) o.constraints) _ _ (λ cs f.
+        once_holds (placed_tag C defs (meaning defs floor) (instance C defs floor i) hs o.tag o.ty) _ _ (λ tag g.
+        record { name = refl; stands = inr (refl, (false, (floor, i, n, e))); accepts = λ t. b.accepts false hs o.ty ty o.constraints cs t (floor, i, n, e) (floor, i, n, f) })))
 
-    made_options : (hs : Scope) (os ps : List ChoiceOption) → MadeOptions C defs i hs os ps → (name : List ℕ) → Matched (λ o p. OptionKept C defs others j way M L hs Empty o p) (option_named os name) (option_named ps name)
+    made_options : (hs : Scope) (os ps : List ChoiceOption) → MadeOptions C defs floor i hs os ps → (name : List ℕ) → Matched (λ o p. OptionKept C defs others j way M L hs Empty o p) (option_named os name) (option_named ps name)
     made_options hs [] [] m name = refl
     made_options hs [] (p ∷ ps) m name = absurd m
     made_options hs (o ∷ os) [] m name = absurd m
     made_options hs (o ∷ os) (p ∷ ps) (e, m) name =
-        let k = result_holds (option_instance C defs (meaning defs i) (instance C defs i) hs (out-ChoiceOption o)) (λ p. OptionKept C defs others j way M L hs Empty (out-ChoiceOption o) p) (out-ChoiceOption p) (option_kept hs (out-ChoiceOption o)) e in
+        let k = result_holds (option_instance C defs (meaning defs floor) (instance C defs floor i) hs (out-ChoiceOption o)) (λ p. OptionKept C defs others j way M L hs Empty (out-ChoiceOption o) p) (out-ChoiceOption p) (option_kept hs (out-ChoiceOption o)) e in
         if_matched (λ o p. OptionKept C defs others j way M L hs Empty o p) (bytes_eq (out-ChoiceOption o).name name) (bytes_eq (out-ChoiceOption p).name name) (Some (out-ChoiceOption o)) (option_named os name) (Some (out-ChoiceOption p)) (option_named ps name)
         (ap (λ z. bytes_eq z name) k.name) (out-ChoiceOption p, refl, k) (made_options hs os ps m name)
 
     -- ---- members
 
-    member_kept : (m : Member) (c : Bool) → c ≡ m.is_addition → Holds (member_instance C defs (meaning defs i) (instance C defs i) m.scope m.written) (λ w. MemberKept C defs others j way M L m (record { scope = Empty; written = w; is_addition = c }))
+    member_kept : (m : Member) (c : Bool) → c ≡ m.is_addition → Holds (member_instance C defs (meaning defs floor) (instance C defs floor i) m.scope m.written) (λ w. MemberKept C defs others j way M L m (record { scope = Empty; written = w; is_addition = c }))
     member_kept m c same =
-        once_holds ((instance C defs i).of_type false m.scope m.written.ty) _ _ (λ ty e. once_holds (of_constraints C defs (meaning defs i) (instance C defs i) m.scope (place m.scope m.written.ty) m.written.constraints) _ _ (λ cs f.
-        once_holds (perhaps (λ v. C.default (meaning defs i) m.scope v (place m.scope m.written.ty)) m.written.default_value) _ _ (λ d g.
-        once_holds (placed_tag C defs (meaning defs i) (instance C defs i) m.scope m.written.tag m.written.ty) _ _ (λ tag h.
+        once_holds ((instance C defs floor i).of_type false m.scope m.written.ty) _ _ (λ ty e. once_holds (of_constraints C defs (meaning defs floor) (instance C defs floor i) m.scope (place m.scope m.written.ty) m.written.constraints) _ _ (λ cs f.
+        once_holds (perhaps (λ v. C.default (meaning defs floor) m.scope v (place m.scope m.written.ty)) m.written.default_value) _ _ (λ d g.
+        once_holds (placed_tag C defs (meaning defs floor) (instance C defs floor i) m.scope m.written.tag m.written.ty) _ _ (λ tag h.
         record {
           name = refl;
           optional = refl;
           default = perhaps_some _ m.written.default_value d g;
           addition = same;
-          stands = inr (refl, (false, (i, n, e)));
-          accepts = λ t. b.accepts false m.scope m.written.ty ty m.written.constraints cs t (i, n, e) (i, n, f);
+          stands = inr (refl, (false, (floor, i, n, e)));
+          accepts = λ t. b.accepts false m.scope m.written.ty ty m.written.constraints cs t (floor, i, n, e) (floor, i, n, f);
         }))))
 
-    made_members : (marker : Option ℕ) (number : ℕ) (ms : List Member) (ws : List SequenceOrSetMember) → MadeMembers C defs i marker number ms ws → MembersKept C defs others j way M L ms (plain_members Empty marker number ws)
+    made_members : (marker : Option ℕ) (number : ℕ) (ms : List Member) (ws : List SequenceOrSetMember) → MadeMembers C defs floor i marker number ms ws → MembersKept C defs others j way M L ms (plain_members Empty marker number ws)
     made_members marker number [] [] p = tt
     made_members marker number [] (w ∷ ws) p = absurd p
     made_members marker number (m ∷ ms) [] p = absurd p
     made_members marker number (m ∷ ms) (w ∷ ws) (a, e, p) = (
-      result_holds (member_instance C defs (meaning defs i) (instance C defs i) m.scope m.written) (λ w. MemberKept C defs others j way M L m (record { scope = Empty; written = w; is_addition = is_addition_at marker number })) (out-SequenceOrSetMember w)
+      result_holds (member_instance C defs (meaning defs floor) (instance C defs floor i) m.scope m.written) (λ w. MemberKept C defs others j way M L m (record { scope = Empty; written = w; is_addition = is_addition_at marker number })) (out-SequenceOrSetMember w)
           (member_kept m (is_addition_at marker number) (truths_same _ _ a)) e,
       made_members marker (suc number) ms ws p,
     )
 
-    struct_both : (hs : Scope) (x y : StructLayer) → MadeStruct C defs i hs x y → Paired way (λ ms ns. MembersKept C defs others j way M L ms ns) (M.members hs x) (L.members Empty y)
+    struct_both : (hs : Scope) (x y : StructLayer) → MadeStruct C defs floor i hs x y → Paired way (λ ms ns. MembersKept C defs others j way M L ms ns) (M.members hs x) (L.members Empty y)
     struct_both hs x y (e, (ms, f, p)) =
         paired_weaker way (λ ns ws. (ms ≡ ns) × (plain_members Empty y.extensible 0 y.members ≡ ws)) (λ ms ns. MembersKept C defs others j way M L ms ns) (M.members hs x) (L.members Empty y) (λ ns ws q.
         subst (λ z. MembersKept C defs others j way M L ns z) q.1 (subst (λ z. MembersKept C defs others j way M L z (plain_members Empty y.extensible 0 y.members)) q.0 (made_members y.extensible 0 ms y.members p)))
-        (b.members_own i n hs x y ms f e)
+        (b.members_own floor (floor_before C defs j floor i n) hs x y ms f e)
 
-    form_kept : (hs : Scope) (a c : Kind) → KindForm C defs i hs a c → KindKept C defs others j way M L hs Empty a c
+    form_kept : (hs : Scope) (a c : Kind) → KindForm C defs floor i hs a c → KindKept C defs others j way M L hs Empty a c
     form_kept hs (StructKind x) c (y, e, p) = (y, e, struct_both hs x y p)
-    form_kept hs (ListKind ty) c (uy, e, p) = (uy, e, inr (refl, (false, (i, n, p))))
+    form_kept hs (ListKind ty) c (uy, e, p) = (uy, e, inr (refl, (false, (floor, i, n, p))))
     form_kept hs (ChoiceKind os) c (ps, e, p) = (ps, e, made_options hs os ps p)
     form_kept hs (FieldKind x) c q = q
     form_kept hs (ReferenceKind x) c p = absurd p
@@ -169,7 +169,7 @@ module _ (C : Choices) (defs others : Definitions) (j : ℕ) (way : Way) (M L : 
   pub kinds_kept : (h k : Place) → Alike C defs others j h k → KindKept C defs others j way M L h.scope k.scope (kind_of h) (kind_of k)
   kinds_kept h k (inl (e, inl same)) = subst (λ z. KindKept C defs others j way M L h.scope z.scope (kind_of h) (kind_of z)) e (kind_kept same h.scope (kind_of h))
   kinds_kept h k (inl (e, inr simple)) = subst (λ z. KindKept C defs others j way M L h.scope z.scope (kind_of h) (kind_of z)) e (simple_kept h.scope (kind_of h) simple)
-  kinds_kept h k (inr (s, (i, n, p))) = subst (λ z. KindKept C defs others j way M L h.scope z (kind_of h) (kind_of k)) (sym s) (form_kept i n h.scope (kind_of h) (kind_of k) p)
+  kinds_kept h k (inr (s, (floor, i, n, p))) = subst (λ z. KindKept C defs others j way M L h.scope z (kind_of h) (kind_of k)) (sym s) (form_kept floor i n h.scope (kind_of h) (kind_of k) p)
 
   elements_kept : (hs ks : Scope) (a c : Kind) → KindKept C defs others j way M L hs ks a c → Matched (λ p q. Stands C defs others j p q) (element_in hs a) (element_in ks c)
   elements_kept hs ks (StructKind x) c (y, e, p) = ap (element_in ks) e

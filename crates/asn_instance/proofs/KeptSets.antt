@@ -1,5 +1,5 @@
 -- Elements and sets are kept.
-use Rattle.std.proofs.Common.{Bool, List, None, Option, Some, [], ap, false, inl, inr, pos, refl, subst, suc, sym, true, zero, ℕ, ◌∙◌, ◌∷◌, ◌≡◌}
+use Rattle.std.proofs.Common.{Bool, List, None, Option, Some, [], ap, false, inl, inr, pos, refl, subst, suc, sym, true, zero, ℕ, ◌+◌, ◌∙◌, ◌∷◌, ◌≡◌}
 use Rattle.asn_kinds.specs.declared.constraints.SetOperator.{SetOperator}
 use Rattle.asn_kinds.specs.declared.constraints.SetOperator.TheVariants.{Except, Intersection, Union}
 use Rattle.asn_kinds.specs.declared.types.DistinguishedValue.{DistinguishedValue}
@@ -24,7 +24,7 @@ use Rattle.asn_instance.specs.Heads.{Alike, Before, is_simple}
 use Rattle.asn_instance.specs.Instance.{component_instance, element_instance, inner_instance, instance, listed_instance, no_instance, of_constraints, set_instance}
 use Rattle.asn_instance.specs.Subjects.{Choices, OnCharacters, OnValues, Subject, ends_read, perhaps, traversed, values_read}
 use Rattle.asn_instance.specs.Ways.{Known, Refined, Settled, Way}
-use Rattle.asn_instance.proofs.Below.{Below, IsOf, MadeChain, MadeElement, MadeOthers, MadeSet, by_subject, fewer}
+use Rattle.asn_instance.proofs.Below.{Below, IsOf, MadeChain, MadeElement, MadeOthers, MadeSet, by_subject, fewer, floor_before}
 use Rattle.asn_instance.proofs.Forms.{alike_blind, codes_blind, named_blind}
 use Rattle.asn_instance.proofs.Holding.{Holds, once_holds, then_holds}
 use Rattle.asn_instance.proofs.Pairs.{answers_refined, beside_known, character_settled, lifted_known, number_known, number_sets_known, paired_known, paired_refined, parent_end_known, same_known, unless_known, whole_settled}
@@ -39,31 +39,31 @@ rolled roll out same (Some l) P x p e =
     subst (λ z. P (out z)) q (subst P (sym (same l)) p)
 
 module _ (C : Choices) (defs : Definitions) where
-  no_element : (scope : Scope) (s : Subject) (e f : SubtypeElement) → (instance C defs zero).of_element scope s e ≡ Some f → ⊥
+  pub no_element : (floor : ℕ) (scope : Scope) (s : Subject) (e f : SubtypeElement) → (instance C defs floor zero).of_element scope s e ≡ Some f → ⊥
   unfolding instance no_instance
-  no_element scope s e f p = cc
+  no_element floor scope s e f p = cc
 
-  no_set : (scope : Scope) (s : Subject) (e f : ElementOrSetOperation) → (instance C defs zero).of_set scope s e ≡ Some f → ⊥
+  pub no_set : (floor : ℕ) (scope : Scope) (s : Subject) (e f : ElementOrSetOperation) → (instance C defs floor zero).of_set scope s e ≡ Some f → ⊥
   unfolding instance no_instance
-  no_set scope s e f p = cc
+  no_set floor scope s e f p = cc
 
-  element_unfolds : (i : ℕ) (scope : Scope) (s : Subject) (e : SubtypeElement) → (instance C defs (suc i)).of_element scope s e ≡ once None (element_instance C defs (meaning defs i) (instance C defs i) scope s (out-SubtypeElement e)) (λ l. Some (roll-SubtypeElement l))
+  element_unfolds : (floor i : ℕ) (scope : Scope) (s : Subject) (e : SubtypeElement) → (instance C defs floor (suc i)).of_element scope s e ≡ once None (element_instance C defs (meaning defs floor) (instance C defs floor i) scope s (out-SubtypeElement e)) (λ l. Some (roll-SubtypeElement l))
   unfolding instance
-  element_unfolds i scope s e = refl
+  element_unfolds floor i scope s e = refl
 
-  set_unfolds : (i : ℕ) (scope : Scope) (s : Subject) (e : ElementOrSetOperation) → (instance C defs (suc i)).of_set scope s e ≡ once None (set_instance C defs (meaning defs i) (instance C defs i) scope s (out-ElementOrSetOperation e)) (λ l. Some (roll-ElementOrSetOperation l))
+  set_unfolds : (floor i : ℕ) (scope : Scope) (s : Subject) (e : ElementOrSetOperation) → (instance C defs floor (suc i)).of_set scope s e ≡ once None (set_instance C defs (meaning defs floor) (instance C defs floor i) scope s (out-ElementOrSetOperation e)) (λ l. Some (roll-ElementOrSetOperation l))
   unfolding instance
-  set_unfolds i scope s e = refl
+  set_unfolds floor i scope s e = refl
 
   pub element_made : (j : ℕ) (scope : Scope) (s : Subject) (e f : SubtypeElement) (P : ElementLayer → Type 0) → MadeElement C defs j scope s e f →
-      ((i : ℕ) → Before C defs j i → Holds (element_instance C defs (meaning defs i) (instance C defs i) scope s (out-SubtypeElement e)) P) → P (out-SubtypeElement f)
-  element_made j scope s e f P (zero, n, p) h = absurd (no_element scope s e f p)
-  element_made j scope s e f P (suc i, n, p) h = rolled roll-SubtypeElement out-SubtypeElement out-roll-SubtypeElement _ P f (h i (fewer C defs j i n)) (sym (element_unfolds i scope s e) ∙ p)
+      ((floor i : ℕ) → Before C defs j (floor + i) → Holds (element_instance C defs (meaning defs floor) (instance C defs floor i) scope s (out-SubtypeElement e)) P) → P (out-SubtypeElement f)
+  element_made j scope s e f P (floor, zero, n, p) h = absurd (no_element floor scope s e f p)
+  element_made j scope s e f P (floor, suc i, n, p) h = rolled roll-SubtypeElement out-SubtypeElement out-roll-SubtypeElement _ P f (h floor i (fewer C defs j floor i n)) (sym (element_unfolds floor i scope s e) ∙ p)
 
   pub set_made : (j : ℕ) (scope : Scope) (s : Subject) (e f : ElementOrSetOperation) (P : SetLayer → Type 0) → MadeSet C defs j scope s e f →
-      ((i : ℕ) → Before C defs j i → Holds (set_instance C defs (meaning defs i) (instance C defs i) scope s (out-ElementOrSetOperation e)) P) → P (out-ElementOrSetOperation f)
-  set_made j scope s e f P (zero, n, p) h = absurd (no_set scope s e f p)
-  set_made j scope s e f P (suc i, n, p) h = rolled roll-ElementOrSetOperation out-ElementOrSetOperation out-roll-ElementOrSetOperation _ P f (h i (fewer C defs j i n)) (sym (set_unfolds i scope s e) ∙ p)
+      ((floor i : ℕ) → Before C defs j (floor + i) → Holds (set_instance C defs (meaning defs floor) (instance C defs floor i) scope s (out-ElementOrSetOperation e)) P) → P (out-ElementOrSetOperation f)
+  set_made j scope s e f P (floor, zero, n, p) h = absurd (no_set floor scope s e f p)
+  set_made j scope s e f P (floor, suc i, n, p) h = rolled roll-ElementOrSetOperation out-ElementOrSetOperation out-roll-ElementOrSetOperation _ P f (h floor i (fewer C defs j floor i n)) (sym (set_unfolds floor i scope s e) ∙ p)
 
 -- ---- chains of elements that are made
 
@@ -89,7 +89,7 @@ module _ (C : Choices) (defs : Definitions) (j : ℕ) (scope : Scope) (s : Subje
 
 -- ---- sets
 
-simple_integer : (names : Option (List DistinguishedValue)) → is_simple (kind_of (integer_named names)) ≡ true
+pub simple_integer : (names : Option (List DistinguishedValue)) → is_simple (kind_of (integer_named names)) ≡ true
 simple_integer names = ap (λ l. is_simple (kind_at l)) (type_of_kind.outs-Integer _)
 
 simple_text : is_simple (kind_of plain_text) ≡ true
@@ -117,61 +117,61 @@ module _ (C : Choices) (defs others : Definitions) (j : ℕ) (way : Way) (M L : 
 
   -- ---- values
 
-  pub all_kept : (i : ℕ) → Before C defs j i → (scope : Scope) (v w : ASN1Value) (s : Subject) (p q : Parent) → IsOf C defs others j way s p q → C.value (meaning defs i) scope v (values_read s) ≡ Some w →
+  pub all_kept : (floor i : ℕ) → Before C defs j (floor + i) → (scope : Scope) (v w : ASN1Value) (s : Subject) (p q : Parent) → IsOf C defs others j way s p q → C.value (meaning defs floor) scope v (values_read s) ≡ Some w →
       Refined way (M.is_all scope v (value_place p)) (L.is_all Empty w (value_place q))
-  all_kept i n scope v w s p q o = by_subject C defs others j way (λ s p q. C.value (meaning defs i) scope v (values_read s) ≡ Some w → Refined way (M.is_all scope v (value_place p)) (L.is_all Empty w (value_place q)))
-      (λ h k x y a u e. b.values.all i scope v w h k n e a) (λ c e. b.values.all i scope v w plain_text plain_text n e (inl (refl, inr simple_text))) s p q o
+  all_kept floor i n scope v w s p q o = by_subject C defs others j way (λ s p q. C.value (meaning defs floor) scope v (values_read s) ≡ Some w → Refined way (M.is_all scope v (value_place p)) (L.is_all Empty w (value_place q)))
+      (λ h k x y a u e. b.values.all floor scope v w h k (floor_before C defs j floor i n) e a) (λ c e. b.values.all floor scope v w plain_text plain_text (floor_before C defs j floor i n) e (inl (refl, inr simple_text))) s p q o
 
-  pub value_kept : (i : ℕ) → Before C defs j i → (scope : Scope) (v w : ASN1Value) (s : Subject) (p q : Parent) → IsOf C defs others j way s p q → C.value (meaning defs i) scope v (values_read s) ≡ Some w →
+  pub value_kept : (floor i : ℕ) → Before C defs j (floor + i) → (scope : Scope) (v w : ASN1Value) (s : Subject) (p q : Parent) → IsOf C defs others j way s p q → C.value (meaning defs floor) scope v (values_read s) ≡ Some w →
       M.is_all scope v (value_place p) ≡ No → L.is_all Empty w (value_place q) ≡ No → Settled way (M.denotes scope v (value_place p)) (L.denotes Empty w (value_place q))
-  value_kept i n scope v w s p q o = by_subject C defs others j way (λ s p q. C.value (meaning defs i) scope v (values_read s) ≡ Some w →
+  value_kept floor i n scope v w s p q o = by_subject C defs others j way (λ s p q. C.value (meaning defs floor) scope v (values_read s) ≡ Some w →
       M.is_all scope v (value_place p) ≡ No → L.is_all Empty w (value_place q) ≡ No → Settled way (M.denotes scope v (value_place p)) (L.denotes Empty w (value_place q)))
-      (λ h k x y a u e. b.values.single i scope v w h k n e a) (λ c e. b.values.single i scope v w plain_text plain_text n e (inl (refl, inr simple_text))) s p q o
+      (λ h k x y a u e. b.values.single floor scope v w h k (floor_before C defs j floor i n) e a) (λ c e. b.values.single floor scope v w plain_text plain_text (floor_before C defs j floor i n) e (inl (refl, inr simple_text))) s p q o
 
-  end_kept : (i : ℕ) → Before C defs j i → (scope : Scope) (v w : ASN1Value) (s : Subject) (p q : Parent) → IsOf C defs others j way s p q → C.end (meaning defs i) scope v (ends_read s) ≡ Some w →
+  end_kept : (floor i : ℕ) → Before C defs j (floor + i) → (scope : Scope) (v w : ASN1Value) (s : Subject) (p q : Parent) → IsOf C defs others j way s p q → C.end (meaning defs floor) scope v (ends_read s) ≡ Some w →
       Settled way (end_denoted M scope p v) (end_denoted L Empty q w)
-  end_kept i n scope v w s p q o = by_subject C defs others j way (λ s p q. C.end (meaning defs i) scope v (ends_read s) ≡ Some w → Settled way (end_denoted M scope p v) (end_denoted L Empty q w))
-      (λ h k x y a u e. whole_settled way _ _ (b.values.end i scope v w (integer_of h) (integer_of k) n e (integers_alike h k a))) (λ c e. character_settled way _ _ (b.values.end i scope v w plain_text plain_text n e (inl (refl, inr simple_text)))) s p q o
+  end_kept floor i n scope v w s p q o = by_subject C defs others j way (λ s p q. C.end (meaning defs floor) scope v (ends_read s) ≡ Some w → Settled way (end_denoted M scope p v) (end_denoted L Empty q w))
+      (λ h k x y a u e. whole_settled way _ _ (b.values.end floor scope v w (integer_of h) (integer_of k) (floor_before C defs j floor i n) e (integers_alike h k a))) (λ c e. character_settled way _ _ (b.values.end floor scope v w plain_text plain_text (floor_before C defs j floor i n) e (inl (refl, inr simple_text)))) s p q o
 
   numbers_of_kept : (s : Subject) (p q : Parent) → IsOf C defs others j way s p q → Known way (numbers_of p) (numbers_of q)
   numbers_of_kept s p q o = by_subject C defs others j way (λ s p q. Known way (numbers_of p) (numbers_of q)) (λ h k x y a w. w) (λ c. same_known way _) s p q o
 
-  module _ (i : ℕ) (n : Before C defs j i) (scope : Scope) (s : Subject) (p q : Parent) (o : IsOf C defs others j way s p q) where
-    low_kept : (is_open : Bool) (v : Option ASN1Value) → Holds (perhaps (λ v. C.end (meaning defs i) scope v (ends_read s)) v) (λ w. Known way (from_low M scope p is_open v) (from_low L Empty q is_open w))
+  module _ (floor i : ℕ) (n : Before C defs j (floor + i)) (scope : Scope) (s : Subject) (p q : Parent) (o : IsOf C defs others j way s p q) where
+    low_kept : (is_open : Bool) (v : Option ASN1Value) → Holds (perhaps (λ v. C.end (meaning defs floor) scope v (ends_read s)) v) (λ w. Known way (from_low M scope p is_open v) (from_low L Empty q is_open w))
     low_kept is_open None = parent_end_known way above_least is_open _ _ (numbers_of_kept s p q o)
-    low_kept is_open (Some v) = once_holds (C.end (meaning defs i) scope v (ends_read s)) _ _ (λ w e. beside_known way (numbers_from is_open) _ _ (end_kept i n scope v w s p q o e))
+    low_kept is_open (Some v) = once_holds (C.end (meaning defs floor) scope v (ends_read s)) _ _ (λ w e. beside_known way (numbers_from is_open) _ _ (end_kept floor i n scope v w s p q o e))
 
-    high_kept : (is_open : Bool) (v : Option ASN1Value) → Holds (perhaps (λ v. C.end (meaning defs i) scope v (ends_read s)) v) (λ w. Known way (up_to_high M scope p is_open v) (up_to_high L Empty q is_open w))
+    high_kept : (is_open : Bool) (v : Option ASN1Value) → Holds (perhaps (λ v. C.end (meaning defs floor) scope v (ends_read s)) v) (λ w. Known way (up_to_high M scope p is_open v) (up_to_high L Empty q is_open w))
     high_kept is_open None = parent_end_known way below_greatest is_open _ _ (numbers_of_kept s p q o)
-    high_kept is_open (Some v) = once_holds (C.end (meaning defs i) scope v (ends_read s)) _ _ (λ w e. beside_known way (numbers_to is_open) _ _ (end_kept i n scope v w s p q o e))
+    high_kept is_open (Some v) = once_holds (C.end (meaning defs floor) scope v (ends_read s)) _ _ (λ w e. beside_known way (numbers_to is_open) _ _ (end_kept floor i n scope v w s p q o e))
 
     pub range_kept : (low high : Option ASN1Value) (low_open high_open : Bool) (Q : ElementLayer → Type 0) (e : Bool) →
         ((l h : Option ASN1Value) → Known way (from_low M scope p low_open low) (from_low L Empty q low_open l) →
         Known way (up_to_high M scope p high_open high) (up_to_high L Empty q high_open h) → Q (SubtypeElement-F.ValueRange l h low_open high_open e)) →
-        Holds (element_instance C defs (meaning defs i) (instance C defs i) scope s (SubtypeElement-F.ValueRange low high low_open high_open e)) Q
+        Holds (element_instance C defs (meaning defs floor) (instance C defs floor i) scope s (SubtypeElement-F.ValueRange low high low_open high_open e)) Q
     range_kept low high low_open high_open Q e f =
-        then_holds (perhaps (λ v. C.end (meaning defs i) scope v (ends_read s)) low) _ _ _ (low_kept low_open low) (λ l u r.
-        then_holds (perhaps (λ v. C.end (meaning defs i) scope v (ends_read s)) high) _ _ _ (high_kept high_open high) (λ h w t.
+        then_holds (perhaps (λ v. C.end (meaning defs floor) scope v (ends_read s)) low) _ _ _ (low_kept low_open low) (λ l u r.
+        then_holds (perhaps (λ v. C.end (meaning defs floor) scope v (ends_read s)) high) _ _ _ (high_kept high_open high) (λ h w t.
         f l h r t))
 
     -- the whole numbers of an element
-    numbers_kept : (l : ElementLayer) → Holds (element_instance C defs (meaning defs i) (instance C defs i) scope s l) (λ r. Known way (numbers_at_element M scope p l) (numbers_at_element L Empty q r))
+    numbers_kept : (l : ElementLayer) → Holds (element_instance C defs (meaning defs floor) (instance C defs floor i) scope s l) (λ r. Known way (numbers_at_element M scope p l) (numbers_at_element L Empty q r))
     numbers_kept (SubtypeElement-F.SingleValue v e) =
-        once_holds (C.value (meaning defs i) scope v (values_read s)) _ _ (λ w u. unless_known way _ _ _ _ (all_kept i n scope v w s p q o u) (λ e f. number_known way _ _ (value_kept i n scope v w s p q o u e f)))
-    numbers_kept (SubtypeElement-F.ContainedSubtype ty e) = once_holds ((instance C defs i).of_type true scope ty) _ _ (λ uy u. b.numbers true scope ty uy [] [] (i, n, u) (i, n, refl))
-    numbers_kept (SubtypeElement-F.TypeConstraint ty) = once_holds ((instance C defs i).of_type true scope ty) _ _ (λ uy u. b.numbers true scope ty uy [] [] (i, n, u) (i, n, refl))
+        once_holds (C.value (meaning defs floor) scope v (values_read s)) _ _ (λ w u. unless_known way _ _ _ _ (all_kept floor i n scope v w s p q o u) (λ e f. number_known way _ _ (value_kept floor i n scope v w s p q o u e f)))
+    numbers_kept (SubtypeElement-F.ContainedSubtype ty e) = once_holds ((instance C defs floor i).of_type true scope ty) _ _ (λ uy u. b.numbers true scope ty uy [] [] (floor, i, n, u) (floor, i, n, refl))
+    numbers_kept (SubtypeElement-F.TypeConstraint ty) = once_holds ((instance C defs floor i).of_type true scope ty) _ _ (λ uy u. b.numbers true scope ty uy [] [] (floor, i, n, u) (floor, i, n, refl))
     numbers_kept (SubtypeElement-F.ValueRange low high low_open high_open e) = range_kept low high low_open high_open _ e (λ l h w u. lifted_known way in_both _ _ _ _ w u)
-    numbers_kept (SubtypeElement-F.PermittedAlphabet set) = once_holds ((instance C defs i).of_set scope OnCharacters set) _ _ (λ x u. same_known way (Some no_number))
-    numbers_kept (SubtypeElement-F.SizeConstraint set) = once_holds ((instance C defs i).of_set scope (OnValues (integer_named None)) set) _ _ (λ x u. same_known way (Some no_number))
+    numbers_kept (SubtypeElement-F.PermittedAlphabet set) = once_holds ((instance C defs floor i).of_set scope OnCharacters set) _ _ (λ x u. same_known way (Some no_number))
+    numbers_kept (SubtypeElement-F.SizeConstraint set) = once_holds ((instance C defs floor i).of_set scope (OnValues (integer_named None)) set) _ _ (λ x u. same_known way (Some no_number))
     numbers_kept (SubtypeElement-F.SingleTypeConstraint cs) = component_numbers s
       where
-        component_numbers : (s : Subject) → Holds (component_instance C defs (meaning defs i) (instance C defs i) scope s cs) (λ r. Known way (Some no_number) (numbers_at_element L Empty q r))
-        component_numbers (OnValues h) = once_holds (element_place h) _ _ (λ x u. once_holds (of_constraints C defs (meaning defs i) (instance C defs i) scope x cs) _ _ (λ ds w. same_known way (Some no_number)))
+        component_numbers : (s : Subject) → Holds (component_instance C defs (meaning defs floor) (instance C defs floor i) scope s cs) (λ r. Known way (Some no_number) (numbers_at_element L Empty q r))
+        component_numbers (OnValues h) = once_holds (element_place h) _ _ (λ x u. once_holds (of_constraints C defs (meaning defs floor) (instance C defs floor i) scope x cs) _ _ (λ ds w. same_known way (Some no_number)))
         component_numbers OnCharacters = tt
     numbers_kept (SubtypeElement-F.MultipleTypeConstraints inner) = inner_numbers s
       where
-        inner_numbers : (s : Subject) → Holds (inner_instance C defs (meaning defs i) (instance C defs i) scope s inner) (λ r. Known way (Some no_number) (numbers_at_element L Empty q r))
-        inner_numbers (OnValues h) = once_holds (traversed (listed_instance C defs (meaning defs i) (instance C defs i) scope h) inner.constraints) _ _ (λ ds w. same_known way (Some no_number))
+        inner_numbers : (s : Subject) → Holds (inner_instance C defs (meaning defs floor) (instance C defs floor i) scope s inner) (λ r. Known way (Some no_number) (numbers_at_element L Empty q r))
+        inner_numbers (OnValues h) = once_holds (traversed (listed_instance C defs (meaning defs floor) (instance C defs floor i) scope h) inner.constraints) _ _ (λ ds w. same_known way (Some no_number))
         inner_numbers OnCharacters = tt
     numbers_kept (SubtypeElement-F.PatternConstraint x) = same_known way (Some every_number)
     numbers_kept (SubtypeElement-F.UserDefinedConstraint x) = same_known way (Some every_number)
@@ -181,4 +181,4 @@ module _ (C : Choices) (defs others : Definitions) (j : ℕ) (way : Way) (M L : 
   numbers_in_set_kept scope s p q x y n o =
       paired_known way (λ c d. MadeChain C defs j scope s c d) (M.chain x) (L.chain y) (ranked number_sets (λ e. numbers_at_element M scope p (out-SubtypeElement e))) (ranked number_sets (λ e. numbers_at_element L Empty q (out-SubtypeElement e))) (b.chain scope s x y n) (λ c d m.
       ranked_made C defs j scope s (Option Numbers) (Option Numbers) number_sets number_sets (λ u v. Known way u v) (number_sets_known way) _ _
-      (λ e f u. element_made C defs j scope s e f (λ r. Known way (numbers_at_element M scope p (out-SubtypeElement e)) (numbers_at_element L Empty q r)) u (λ i n. numbers_kept i n scope s p q o (out-SubtypeElement e))) c d m)
+      (λ e f u. element_made C defs j scope s e f (λ r. Known way (numbers_at_element M scope p (out-SubtypeElement e)) (numbers_at_element L Empty q r)) u (λ floor i n. numbers_kept floor i n scope s p q o (out-SubtypeElement e))) c d m)

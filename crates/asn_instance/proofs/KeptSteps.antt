@@ -1,5 +1,5 @@
 -- One step more keeps what is kept.
-use Rattle.std.proofs.Common.{Bool, List, None, Option, Some, [], ap, false, inl, inr, refl, subst, sym, ℕ, ◌++◌, ◌∙◌, ◌∷◌, ◌≡◌}
+use Rattle.std.proofs.Common.{Bool, List, None, Option, Some, [], ap, false, inl, inr, refl, subst, sym, ℕ, ◌++◌, ◌+◌, ◌∙◌, ◌∷◌, ◌≡◌}
 use Rattle.asn_tree.specs.declared.constraints.Constraint.{Constraint}
 use Rattle.asn_tree.specs.declared.constraints.ElementOrSetOperation.{ElementOrSetOperation, ElementOrSetOperation-F, out-ElementOrSetOperation}
 use Rattle.asn_tree.specs.declared.constraints.SetOperation.{out-SetOperation, out-roll-SetOperation}
@@ -23,7 +23,7 @@ use Rattle.asn_instance.specs.Heads.{Alike, Before, KindForm, constraints_made}
 use Rattle.asn_instance.specs.Instance.{instance, operation_instance, set_instance}
 use Rattle.asn_instance.specs.Subjects.{Choices, Subject}
 use Rattle.asn_instance.specs.Ways.{Back, Forth, Known, Refined, Way}
-use Rattle.asn_instance.proofs.Below.{Below, Constrained, First, Instanced, Led, MadeChain, MadeSet, accepts_upto, numbers_upto}
+use Rattle.asn_instance.proofs.Below.{Below, Constrained, First, Instanced, Led, MadeChain, MadeSet, accepts_upto, floor_before, numbers_upto}
 use Rattle.asn_instance.proofs.Forms.{Beside, Followed, Owns, alike_blind, beside_through, form_beside, lead_beside, lists_append, numbers_blind, own, same_beside}
 use Rattle.asn_instance.proofs.Holding.{Holds, once_holds, result_holds}
 use Rattle.asn_instance.proofs.KeptConstraints.{both_kept, both_numbers, unlisted}
@@ -59,7 +59,7 @@ module _ (C : Choices) (defs others : Definitions) (j : ℕ) (way : Way) (M L : 
       at (Some k) = narrowed_append L r.scope k (numbers_before others L r) first later
 
   -- a type in its scope, its instance, and a type beside the instance
-  module _ (i : ℕ) (n : Before C defs j i) (first : First C defs others j way M L i) (down : Bool) (scope : Scope) (ty uy ry : ASN1Type) (made : Instanced C defs j down scope ty uy) (s : Beside (out-ASN1Type uy) (out-ASN1Type ry)) where
+  module _ (floor i : ℕ) (n : Before C defs j (floor + i)) (first : First C defs others j way M L floor i) (down : Bool) (scope : Scope) (ty uy ry : ASN1Type) (made : Instanced C defs j down scope ty uy) (s : Beside (out-ASN1Type uy) (out-ASN1Type ry)) where
     abbrev p : Place
     p = place scope ty
 
@@ -75,14 +75,14 @@ module _ (C : Choices) (defs others : Definitions) (j : ℕ) (way : Way) (M L : 
     lead_same : (d : Lead) → ((N : Meaning) → lead_at others N Empty (kind_of_type uy) ≡ d) → lead others L r ≡ d
     lead_same d f = lead_beside others L Empty (out-ASN1Type uy) (out-ASN1Type ry) s ∙ f L
 
-    alike : KindForm C defs i scope (kind_of_type ty) (kind_of_type uy) → Alike C defs others j p r
-    alike f = inr (refl, (i, n, form_beside C defs i scope (kind_of_type ty) (out-ASN1Type uy) (out-ASN1Type ry) f s))
+    alike : KindForm C defs floor i scope (kind_of_type ty) (kind_of_type uy) → Alike C defs others j p r
+    alike f = inr (refl, (floor, i, n, form_beside C defs floor i scope (kind_of_type ty) (out-ASN1Type uy) (out-ASN1Type ry) f s))
 
-    beside_made : (x : Target) (vy : ASN1Type) (es fs : List Constraint) → constraints_made C defs i x.place.scope x.place x.constraints ≡ Some es → constraints_made C defs i scope p (own (out-ASN1Type ty)) ≡ Some fs →
+    beside_made : (x : Target) (vy : ASN1Type) (es fs : List Constraint) → constraints_made C defs floor i x.place.scope x.place x.constraints ≡ Some es → constraints_made C defs floor i scope p (own (out-ASN1Type ty)) ≡ Some fs →
         Followed (out-ASN1Type vy) (es ++ fs) (out-ASN1Type uy) → Beside (out-ASN1Type vy) (out-ASN1Type ry)
     beside_made x vy es fs v w fw =
-        let e : lists_in es ≡ [] = result_holds (constraints_made C defs i x.place.scope x.place x.constraints) (λ ds. lists_in ds ≡ []) es (unlisted C defs i x.place.scope x.place x.constraints) v in
-        let f : lists_in fs ≡ [] = result_holds (constraints_made C defs i scope p (own (out-ASN1Type ty))) (λ ds. lists_in ds ≡ []) fs (unlisted C defs i scope p (own (out-ASN1Type ty))) w in
+        let e : lists_in es ≡ [] = result_holds (constraints_made C defs floor i x.place.scope x.place x.constraints) (λ ds. lists_in ds ≡ []) es (unlisted C defs floor i x.place.scope x.place x.constraints) v in
+        let f : lists_in fs ≡ [] = result_holds (constraints_made C defs floor i scope p (own (out-ASN1Type ty))) (λ ds. lists_in ds ≡ []) fs (unlisted C defs floor i scope p (own (out-ASN1Type ty))) w in
         beside_through (out-ASN1Type vy) (out-ASN1Type uy) (out-ASN1Type ry) (fw.beside (lists_append es fs f ∙ e)) s
 
     -- ---- heads
@@ -102,11 +102,11 @@ module _ (C : Choices) (defs others : Definitions) (j : ℕ) (way : Way) (M L : 
     by_led Forth P a x (inr e) f g = subst (λ z. P Forth z) (sym e) g
     by_led Back P a x e f g = subst (λ z. P Back z) (sym e) g
 
-    pub type_head : View C defs others j i down scope ty (out-ASN1Type ty) (out-ASN1Type uy) → FoundHeads (head_at defs M p) (head_at others L r)
+    pub type_head : View C defs others j floor i down scope ty (out-ASN1Type ty) (out-ASN1Type uy) → FoundHeads (head_at defs M p) (head_at others L r)
     type_head (Made f g form ds e o) = lead_heads IsHead IsHead (f M) (lead_same IsHead g) (both_paired way (λ h k. Alike C defs others j h k) p r (alike form))
-    type_head (Stayed d c both f g ds e o) = lead_heads (leading d) (leading c) (f M) (lead_same (leading c) g) (leading_heads d c both)
+    type_head (Stayed y is asked d c both f g ds e o) = lead_heads (leading d) (leading c) (f M) (lead_same (leading c) g) (leading_heads d c both)
     type_head (Replaced x l vy u es v fs w fw) =
-        by_led way (λ way a. Paired way (λ h k. Alike C defs others j h k) (head_from M p a) (head_at others L r)) (lead defs M p) x (b.led i n p x l) tt (first.head down x.place.scope x.place.ty vy ry u (beside_made x vy es fs v w fw))
+        by_led way (λ way a. Paired way (λ h k. Alike C defs others j h k) (head_from M p a) (head_at others L r)) (lead defs M p) x (b.led floor (floor_before C defs j floor i n) p x l) tt (first.head down x.place.scope x.place.ty vy ry u (beside_made x vy es fs v w fw))
 
     -- ---- whole numbers and answers
 
@@ -114,22 +114,22 @@ module _ (C : Choices) (defs others : Definitions) (j : ℕ) (way : Way) (M L : 
     leading_stands None c (inl (same, e)) t = subst (λ z. Refined way Unknown (stands_for L t r (leading z))) (sym e) (same_refined way Unknown)
     leading_stands (Some x) c (inl (same, e)) t = subst (λ z. Refined way (M.accepts x.place x.constraints t) (stands_for L t r (leading z))) (sym e) ((b.more same).accepts x.place x.constraints t)
     leading_stands None c (inr e) t = subst (λ z. Refined way Unknown (stands_for L t r (leading z))) (sym e) (same_refined way Unknown)
-    leading_stands (Some x) c (inr (vy, wy, e, f, (i, n, u))) t =
+    leading_stands (Some x) c (inr (vy, wy, e, f, (floor, i, n, u))) t =
         subst (λ z. Refined way (M.accepts z.place z.constraints t) (stands_for L t r (leading c))) (sym e)
-        (subst (λ z. Refined way (M.accepts (place Empty vy) [] t) (stands_for L t r (leading z))) (sym f) (b.accepts false Empty vy wy [] [] t (i, n, u) (i, n, refl)))
+        (subst (λ z. Refined way (M.accepts (place Empty vy) [] t) (stands_for L t r (leading z))) (sym f) (b.accepts false Empty vy wy [] [] t (floor, i, n, u) (floor, i, n, refl)))
 
     leading_numbers : (d c : Option Target) → BothLed C defs others j d c → Known way (numbers_from_lead M p (leading d)) (numbers_from_lead L r (leading c))
     leading_numbers None c (inl (same, e)) = subst (λ z. Known way None (numbers_from_lead L r (leading z))) (sym e) (same_known way None)
     leading_numbers (Some x) c (inl (same, e)) = subst (λ z. Known way (M.numbers x.place x.constraints) (numbers_from_lead L r (leading z))) (sym e) ((b.more same).numbers x.place x.constraints)
     leading_numbers None c (inr e) = subst (λ z. Known way None (numbers_from_lead L r (leading z))) (sym e) (same_known way None)
-    leading_numbers (Some x) c (inr (vy, wy, e, f, (i, n, u))) =
+    leading_numbers (Some x) c (inr (vy, wy, e, f, (floor, i, n, u))) =
         subst (λ z. Known way (M.numbers z.place z.constraints) (numbers_from_lead L r (leading c))) (sym e)
-        (subst (λ z. Known way (M.numbers (place Empty vy) []) (numbers_from_lead L r (leading z))) (sym f) (b.numbers false Empty vy wy [] [] (i, n, u) (i, n, refl)))
+        (subst (λ z. Known way (M.numbers (place Empty vy) []) (numbers_from_lead L r (leading z))) (sym f) (b.numbers false Empty vy wy [] [] (floor, i, n, u) (floor, i, n, refl)))
 
     lead_numbers : (u v : Lead) → lead defs M p ≡ u → lead others L r ≡ v → Known way (numbers_from_lead M p u) (numbers_from_lead L r v) → Known way (numbers_before defs M p) (numbers_before others L r)
     lead_numbers u v e f h = subst (λ z. Known way (numbers_from_lead M p z) (numbers_before others L r)) (sym e) (subst (λ z. Known way (numbers_from_lead M p u) (numbers_from_lead L r z)) (sym f) h)
 
-    head_numbers : KindForm C defs i scope (kind_of_type ty) (kind_of_type uy) → ((N : Meaning) → lead_at defs N scope (kind_of_type ty) ≡ IsHead) → ((N : Meaning) → lead_at others N Empty (kind_of_type uy) ≡ IsHead) →
+    head_numbers : KindForm C defs floor i scope (kind_of_type ty) (kind_of_type uy) → ((N : Meaning) → lead_at defs N scope (kind_of_type ty) ≡ IsHead) → ((N : Meaning) → lead_at others N Empty (kind_of_type uy) ≡ IsHead) →
         Known way (numbers_before defs M p) (numbers_before others L r)
     head_numbers form f g =
         lead_numbers IsHead IsHead (f M) (lead_same IsHead g) (equal_known way _ _ (ap Some (alike_blind C defs others numbers_at_head numbers_blind j p r (alike form))))
@@ -142,28 +142,28 @@ module _ (C : Choices) (defs others : Definitions) (j : ℕ) (way : Way) (M L : 
 
     module _ (cs ds : List Constraint) (m : Constrained C defs j scope p cs ds) where
       -- a head or a name that stays
-      own_accepts : (t : ValueTree) (es : List Constraint) → constraints_made C defs i scope p (own (out-ASN1Type ty)) ≡ Some es → Owns (out-ASN1Type uy) es → Known way (numbers_before defs M p) (numbers_before others L r) →
+      own_accepts : (t : ValueTree) (es : List Constraint) → constraints_made C defs floor i scope p (own (out-ASN1Type ty)) ≡ Some es → Owns (out-ASN1Type uy) es → Known way (numbers_before defs M p) (numbers_before others L r) →
           Refined way (stands_for M t p (lead defs M p)) (stands_for L t r (lead others L r)) → Refined way (accepts_at defs M p cs t) (accepts_upto others L r (own (out-ASN1Type uy) ++ ds) t)
       own_accepts t es e o w h =
           subst (λ z. Refined way (accepts_at defs M p cs t) z) (upto_lists C defs others j way M L b (out-ASN1Type uy) ry es ds t s o)
-          (both_refined way _ _ _ _ h (both_kept C defs others j way M L b scope p r (own (out-ASN1Type ty)) es cs ds (numbers_before defs M p) (λ k. numbers_before others L r) found (i, n, e) m (λ k f. w) t))
+          (both_refined way _ _ _ _ h (both_kept C defs others j way M L b scope p r (own (out-ASN1Type ty)) es cs ds (numbers_before defs M p) (λ k. numbers_before others L r) found (floor, i, n, e) m (λ k f. w) t))
 
-      own_numbers : (es : List Constraint) → constraints_made C defs i scope p (own (out-ASN1Type ty)) ≡ Some es → Owns (out-ASN1Type uy) es → Known way (numbers_before defs M p) (numbers_before others L r) →
+      own_numbers : (es : List Constraint) → constraints_made C defs floor i scope p (own (out-ASN1Type ty)) ≡ Some es → Owns (out-ASN1Type uy) es → Known way (numbers_before defs M p) (numbers_before others L r) →
           Known way (numbers_at defs M p cs) (numbers_upto others L r (own (out-ASN1Type uy) ++ ds))
       own_numbers es e o w =
           subst (λ z. Known way (numbers_at defs M p cs) z) (numbers_lists C defs others j way M L b (out-ASN1Type uy) ry es ds s o)
-          (both_numbers C defs others j way M L b scope p r (own (out-ASN1Type ty)) es cs ds (numbers_before defs M p) (λ k. numbers_before others L r) found (i, n, e) m (λ k f. w))
+          (both_numbers C defs others j way M L b scope p r (own (out-ASN1Type ty)) es cs ds (numbers_before defs M p) (λ k. numbers_before others L r) found (floor, i, n, e) m (λ k f. w))
 
-      module _ (x : Target) (l : lead defs (meaning defs i) p ≡ LeadsTo x) (vy : ASN1Type) (u : (instance C defs i).of_type down x.place.scope x.place.ty ≡ Some vy) (es : List Constraint) (v : constraints_made C defs i x.place.scope x.place x.constraints ≡ Some es)
-          (fs : List Constraint) (w : constraints_made C defs i scope p (own (out-ASN1Type ty)) ≡ Some fs) (fw : Followed (out-ASN1Type vy) (es ++ fs) (out-ASN1Type uy)) where
+      module _ (x : Target) (l : lead defs (meaning defs floor) p ≡ LeadsTo x) (vy : ASN1Type) (u : (instance C defs floor i).of_type down x.place.scope x.place.ty ≡ Some vy) (es : List Constraint) (v : constraints_made C defs floor i x.place.scope x.place x.constraints ≡ Some es)
+          (fs : List Constraint) (w : constraints_made C defs floor i scope p (own (out-ASN1Type ty)) ≡ Some fs) (fw : Followed (out-ASN1Type vy) (es ++ fs) (out-ASN1Type uy)) where
         abbrev firsts : List Constraint
         firsts = own (out-ASN1Type vy) ++ es
 
         first_numbers : Known way (numbers_before defs M p) (numbers_upto others L r firsts)
-        first_numbers = by_led way (λ way a. Known way (numbers_from_lead M p a) (numbers_upto others L r firsts)) (lead defs M p) x (b.led i n p x l) tt (first.numbers down x.place.scope x.place.ty vy ry x.constraints es u (beside_made x vy es fs v w fw) (i, n, v))
+        first_numbers = by_led way (λ way a. Known way (numbers_from_lead M p a) (numbers_upto others L r firsts)) (lead defs M p) x (b.led floor (floor_before C defs j floor i n) p x l) tt (first.numbers down x.place.scope x.place.ty vy ry x.constraints es u (beside_made x vy es fs v w fw) (floor, i, n, v))
 
         first_accepts : (t : ValueTree) → Refined way (stands_for M t p (lead defs M p)) (accepts_upto others L r firsts t)
-        first_accepts t = by_led way (λ way a. Refined way (stands_for M t p a) (accepts_upto others L r firsts t)) (lead defs M p) x (b.led i n p x l) tt (first.accepts down x.place.scope x.place.ty vy ry x.constraints es t u (beside_made x vy es fs v w fw) (i, n, v))
+        first_accepts t = by_led way (λ way a. Refined way (stands_for M t p a) (accepts_upto others L r firsts t)) (lead defs M p) x (b.led floor (floor_before C defs j floor i n) p x l) tt (first.accepts down x.place.scope x.place.ty vy ry x.constraints es t u (beside_made x vy es fs v w fw) (floor, i, n, v))
 
         under : (k : Place) → L.head r ≡ Some k → Known way (numbers_before defs M p) (narrowed_by_all L Empty k (numbers_before others L r) firsts)
         under k e = subst (λ z. Known way (numbers_before defs M p) (once None z (λ k. narrowed_by_all L Empty k (numbers_before others L r) firsts))) e first_numbers
@@ -174,23 +174,23 @@ module _ (C : Choices) (defs others : Definitions) (j : ℕ) (way : Way) (M L : 
             (subst (λ z. Refined way (accepts_at defs M p cs t) (accepts_upto others L r z t)) (sym (regroup (own (out-ASN1Type vy)) es fs ds))
             (subst (λ z. Refined way (accepts_at defs M p cs t) z) (sym (upto_split r firsts (fs ++ ds) t))
             (both_refined way _ _ _ _ (first_accepts t)
-            (both_kept C defs others j way M L b scope p r (own (out-ASN1Type ty)) fs cs ds (numbers_before defs M p) (λ k. narrowed_by_all L Empty k (numbers_before others L r) firsts) found (i, n, w) m under t))))
+            (both_kept C defs others j way M L b scope p r (own (out-ASN1Type ty)) fs cs ds (numbers_before defs M p) (λ k. narrowed_by_all L Empty k (numbers_before others L r) firsts) found (floor, i, n, w) m under t))))
 
         replaced_numbers : Known way (numbers_at defs M p cs) (numbers_upto others L r (own (out-ASN1Type uy) ++ ds))
         replaced_numbers =
             subst (λ z. Known way (numbers_at defs M p cs) z) (numbers_lists C defs others j way M L b (out-ASN1Type uy) ry (own (out-ASN1Type vy) ++ (es ++ fs)) ds s fw.owns)
             (subst (λ z. Known way (numbers_at defs M p cs) (numbers_upto others L r z)) (sym (regroup (own (out-ASN1Type vy)) es fs ds))
             (subst (λ z. Known way (numbers_at defs M p cs) z) (sym (numbers_split r firsts (fs ++ ds)))
-            (both_numbers C defs others j way M L b scope p r (own (out-ASN1Type ty)) fs cs ds (numbers_before defs M p) (λ k. narrowed_by_all L Empty k (numbers_before others L r) firsts) found (i, n, w) m under)))
+            (both_numbers C defs others j way M L b scope p r (own (out-ASN1Type ty)) fs cs ds (numbers_before defs M p) (λ k. narrowed_by_all L Empty k (numbers_before others L r) firsts) found (floor, i, n, w) m under)))
 
-      pub made_accepts : (t : ValueTree) → View C defs others j i down scope ty (out-ASN1Type ty) (out-ASN1Type uy) → Refined way (accepts_at defs M p cs t) (accepts_upto others L r (own (out-ASN1Type uy) ++ ds) t)
+      pub made_accepts : (t : ValueTree) → View C defs others j floor i down scope ty (out-ASN1Type ty) (out-ASN1Type uy) → Refined way (accepts_at defs M p cs t) (accepts_upto others L r (own (out-ASN1Type uy) ++ ds) t)
       made_accepts t (Made f g form es e o) = own_accepts t es e o (head_numbers form f g) (lead_stands t IsHead IsHead (f M) (lead_same IsHead g) (head_kept C defs others j way M L b p r (alike form) t))
-      made_accepts t (Stayed d c both f g es e o) = own_accepts t es e o (stayed_numbers d c both f g) (lead_stands t (leading d) (leading c) (f M) (lead_same (leading c) g) (leading_stands d c both t))
+      made_accepts t (Stayed y is asked d c both f g es e o) = own_accepts t es e o (stayed_numbers d c both f g) (lead_stands t (leading d) (leading c) (f M) (lead_same (leading c) g) (leading_stands d c both t))
       made_accepts t (Replaced x l vy u es v fs w fw) = replaced_accepts x l vy u es v fs w fw t
 
-      pub made_numbers : View C defs others j i down scope ty (out-ASN1Type ty) (out-ASN1Type uy) → Known way (numbers_at defs M p cs) (numbers_upto others L r (own (out-ASN1Type uy) ++ ds))
+      pub made_numbers : View C defs others j floor i down scope ty (out-ASN1Type ty) (out-ASN1Type uy) → Known way (numbers_at defs M p cs) (numbers_upto others L r (own (out-ASN1Type uy) ++ ds))
       made_numbers (Made f g form es e o) = own_numbers es e o (head_numbers form f g)
-      made_numbers (Stayed d c both f g es e o) = own_numbers es e o (stayed_numbers d c both f g)
+      made_numbers (Stayed y is asked d c both f g es e o) = own_numbers es e o (stayed_numbers d c both f g)
       made_numbers (Replaced x l vy u es v fs w fw) = replaced_numbers x l vy u es v fs w fw
 
   -- ---- chains
@@ -198,20 +198,20 @@ module _ (C : Choices) (defs others : Definitions) (j : ℕ) (way : Way) (M L : 
   abbrev Chained : Scope → Subject → Option Chain → Option Chain → Type 0
   Chained scope q c d = Paired way (λ c d. MadeChain C defs j scope q c d) c d
 
-  behind : (scope : Scope) (q : Subject) (i : ℕ) → Before C defs j i → (x y : OperationLayer) → y.operator ≡ x.operator → (instance C defs i).of_element scope q x.base ≡ Some y.base → (instance C defs i).of_set scope q x.operant ≡ Some y.operant →
+  behind : (scope : Scope) (q : Subject) (floor i : ℕ) → Before C defs j (floor + i) → (x y : OperationLayer) → y.operator ≡ x.operator → (instance C defs floor i).of_element scope q x.base ≡ Some y.base → (instance C defs floor i).of_set scope q x.operant ≡ Some y.operant →
       Chained scope q (once None (M.chain x.operant) (λ c. Some (chain_behind x c))) (once None (L.chain y.operant) (λ c. Some (chain_behind y c)))
-  behind scope q i n x y same e f =
-      then_paired way (λ c d. MadeChain C defs j scope q c d) (λ c d. MadeChain C defs j scope q c d) (M.chain x.operant) (L.chain y.operant) (chain_behind x) (chain_behind y) (b.chain scope q x.operant y.operant (i, n, f)) (λ c d m. ((i, n, e), (same, m.0, m.1)))
+  behind scope q floor i n x y same e f =
+      then_paired way (λ c d. MadeChain C defs j scope q c d) (λ c d. MadeChain C defs j scope q c d) (M.chain x.operant) (L.chain y.operant) (chain_behind x) (chain_behind y) (b.chain scope q x.operant y.operant (floor, i, n, f)) (λ c d m. ((floor, i, n, e), (same, m.0, m.1)))
 
-  set_chain : (scope : Scope) (q : Subject) (i : ℕ) → Before C defs j i → (l : SetLayer) → Holds (set_instance C defs (meaning defs i) (instance C defs i) scope q l) (λ r. Chained scope q (chain_at M l) (chain_at L r))
-  set_chain scope q i n (ElementOrSetOperation-F.Element e) = once_holds ((instance C defs i).of_element scope q e) _ _ (λ f u. both_paired way (λ c d. MadeChain C defs j scope q c d) _ _ ((i, n, u), tt))
-  set_chain scope q i n (ElementOrSetOperation-F.SetOperation x) =
-      once_holds (operation_instance C defs (meaning defs i) (instance C defs i) scope q (out-SetOperation x)) _ _ (λ y u.
+  set_chain : (scope : Scope) (q : Subject) (floor i : ℕ) → Before C defs j (floor + i) → (l : SetLayer) → Holds (set_instance C defs (meaning defs floor) (instance C defs floor i) scope q l) (λ r. Chained scope q (chain_at M l) (chain_at L r))
+  set_chain scope q floor i n (ElementOrSetOperation-F.Element e) = once_holds ((instance C defs floor i).of_element scope q e) _ _ (λ f u. both_paired way (λ c d. MadeChain C defs j scope q c d) _ _ ((floor, i, n, u), tt))
+  set_chain scope q floor i n (ElementOrSetOperation-F.SetOperation x) =
+      once_holds (operation_instance C defs (meaning defs floor) (instance C defs floor i) scope q (out-SetOperation x)) _ _ (λ y u.
       subst (λ z. Chained scope q (once None (M.chain (out-SetOperation x).operant) (λ c. Some (chain_behind (out-SetOperation x) c))) (once None (L.chain z.operant) (λ c. Some (chain_behind z c)))) (sym (out-roll-SetOperation y))
-      (result_holds (operation_instance C defs (meaning defs i) (instance C defs i) scope q (out-SetOperation x)) (λ y. Chained scope q (once None (M.chain (out-SetOperation x).operant) (λ c. Some (chain_behind (out-SetOperation x) c))) (once None (L.chain y.operant) (λ c. Some (chain_behind y c)))) y (operation_chain (out-SetOperation x)) u))
+      (result_holds (operation_instance C defs (meaning defs floor) (instance C defs floor i) scope q (out-SetOperation x)) (λ y. Chained scope q (once None (M.chain (out-SetOperation x).operant) (λ c. Some (chain_behind (out-SetOperation x) c))) (once None (L.chain y.operant) (λ c. Some (chain_behind y c)))) y (operation_chain (out-SetOperation x)) u))
     where
-      operation_chain : (x : OperationLayer) → Holds (operation_instance C defs (meaning defs i) (instance C defs i) scope q x) (λ y. Chained scope q (once None (M.chain x.operant) (λ c. Some (chain_behind x c))) (once None (L.chain y.operant) (λ c. Some (chain_behind y c))))
-      operation_chain x = once_holds ((instance C defs i).of_element scope q x.base) _ _ (λ e u. once_holds ((instance C defs i).of_set scope q x.operant) _ _ (λ o v. behind scope q i n x (record x { base = e; operant = o }) refl u v))
+      operation_chain : (x : OperationLayer) → Holds (operation_instance C defs (meaning defs floor) (instance C defs floor i) scope q x) (λ y. Chained scope q (once None (M.chain x.operant) (λ c. Some (chain_behind x c))) (once None (L.chain y.operant) (λ c. Some (chain_behind y c))))
+      operation_chain x = once_holds ((instance C defs floor i).of_element scope q x.base) _ _ (λ e u. once_holds ((instance C defs floor i).of_set scope q x.operant) _ _ (λ o v. behind scope q floor i n x (record x { base = e; operant = o }) refl u v))
 
   pub chain_made : (scope : Scope) (q : Subject) (x y : ElementOrSetOperation) → MadeSet C defs j scope q x y → Chained scope q (chain_at M (out-ElementOrSetOperation x)) (chain_at L (out-ElementOrSetOperation y))
-  chain_made scope q x y m = set_made C defs j scope q x y (λ r. Chained scope q (chain_at M (out-ElementOrSetOperation x)) (chain_at L r)) m (λ i n. set_chain scope q i n (out-ElementOrSetOperation x))
+  chain_made scope q x y m = set_made C defs j scope q x y (λ r. Chained scope q (chain_at M (out-ElementOrSetOperation x)) (chain_at L r)) m (λ floor i n. set_chain scope q floor i n (out-ElementOrSetOperation x))

@@ -16,7 +16,7 @@ use Rattle.asn_meaning.specs.Answers.{Unknown, Within, both, once}
 use Rattle.asn_meaning.specs.Constraints.{all_hold}
 use Rattle.asn_meaning.specs.Definitions.{Definitions, object_named, type_named}
 use Rattle.asn_meaning.specs.Judge.{meaning, stands_for}
-use Rattle.asn_meaning.specs.Kinds.{ChoiceKind, ListKind, StructKind, kind_at}
+use Rattle.asn_meaning.specs.Kinds.{ChoiceKind, ListKind, ReferenceKind, StructKind, kind_at}
 use Rattle.asn_meaning.specs.Layers.{ClassFieldLayer, ListLayer, ReferenceLayer, StructLayer, TypeLayer}
 use Rattle.asn_meaning.specs.Meaning.{Meaning, Member}
 use Rattle.asn_meaning.specs.Members.{is_addition_at}
@@ -79,6 +79,15 @@ stays_same C defs down scope x ds e None f =
     ap (λ z. name_target defs Empty x.identifier z None) e ∙ unlisted_same Empty scope (type_named defs x.identifier)
     ∙ ap (λ z. name_target defs scope x.identifier [] z) (sym bound) ∙ ap (λ z. name_target defs scope x.identifier z (bound_to scope x.identifier)) (sym lists)
 
+no_truth : false ≡ true → ⊥
+no_truth e = cc
+
+-- where heads are asked for no plain name stays
+stays_down : (C : Choices) (down : Bool) (scope : Scope) (x : ReferenceLayer) (o : Option (List ℕ)) → stays_at C down scope x o ≡ true → down ≡ true → is_none o ≡ false
+stays_down C down scope x (Some o) e f = refl
+stays_down C true scope x None e f = absurd (no_truth (and_second (C.keeps None x.identifier) false e))
+stays_down C false scope x None e f = absurd (no_truth f)
+
 -- an open type is open in the empty scope
 open_again : (defs : Definitions) (scope : Scope) (x : ClassFieldLayer) → class_field_type defs scope x ≡ Some Open → class_field_type defs Empty x ≡ Some Open
 open_again defs scope x e = at (is_some (bound_to scope x.class)) e
@@ -95,65 +104,65 @@ module _ (C : Choices) (defs others : Definitions) (j : ℕ) where
   -- ---- what an instance is
 
   -- a type by its layer, and the layer of its instance
-  pub data View (i : ℕ) (down : Bool) (scope : Scope) (ty : ASN1Type) (l r : TypeLayer) : Type 0 where
+  pub data View (floor i : ℕ) (down : Bool) (scope : Scope) (ty : ASN1Type) (l r : TypeLayer) : Type 0 where
     -- a head, whose parts and constraints are made
-    Made : ((N : Meaning) → lead_at defs N scope (kind_at l) ≡ IsHead) → ((N : Meaning) → lead_at others N Empty (kind_at r) ≡ IsHead) → KindForm C defs i scope (kind_at l) (kind_at r) →
-        (ds : List Constraint) → constraints_made C defs i scope (place scope ty) (own l) ≡ Some ds → Owns r ds → View i down scope ty l r
-    -- a name that stays
-    Stayed : (d c : Option Target) → BothLed d c → ((N : Meaning) → lead_at defs N scope (kind_at l) ≡ leading d) → ((N : Meaning) → lead_at others N Empty (kind_at r) ≡ leading c) →
-        (ds : List Constraint) → constraints_made C defs i scope (place scope ty) (own l) ≡ Some ds → Owns r ds → View i down scope ty l r
+    Made : ((N : Meaning) → lead_at defs N scope (kind_at l) ≡ IsHead) → ((N : Meaning) → lead_at others N Empty (kind_at r) ≡ IsHead) → KindForm C defs floor i scope (kind_at l) (kind_at r) →
+        (ds : List Constraint) → constraints_made C defs floor i scope (place scope ty) (own l) ≡ Some ds → Owns r ds → View floor i down scope ty l r
+    -- a name that stays, behind an object's where heads are asked for
+    Stayed : (y : ReferenceLayer) → kind_at r ≡ ReferenceKind y → (down ≡ true → is_none y.parent ≡ false) → (d c : Option Target) → BothLed d c → ((N : Meaning) → lead_at defs N scope (kind_at l) ≡ leading d) → ((N : Meaning) → lead_at others N Empty (kind_at r) ≡ leading c) →
+        (ds : List Constraint) → constraints_made C defs floor i scope (place scope ty) (own l) ≡ Some ds → Owns r ds → View floor i down scope ty l r
     -- a name that what it leads to takes the place of
-    Replaced : (x : Target) → lead_at defs (meaning defs i) scope (kind_at l) ≡ LeadsTo x → (uy : ASN1Type) → (instance C defs i).of_type down x.place.scope x.place.ty ≡ Some uy →
-        (es : List Constraint) → constraints_made C defs i x.place.scope x.place x.constraints ≡ Some es → (ds : List Constraint) → constraints_made C defs i scope (place scope ty) (own l) ≡ Some ds →
-        Followed (out-ASN1Type uy) (es ++ ds) r → View i down scope ty l r
+    Replaced : (x : Target) → lead_at defs (meaning defs floor) scope (kind_at l) ≡ LeadsTo x → (uy : ASN1Type) → (instance C defs floor i).of_type down x.place.scope x.place.ty ≡ Some uy →
+        (es : List Constraint) → constraints_made C defs floor i x.place.scope x.place x.constraints ≡ Some es → (ds : List Constraint) → constraints_made C defs floor i scope (place scope ty) (own l) ≡ Some ds →
+        Followed (out-ASN1Type uy) (es ++ ds) r → View floor i down scope ty l r
 
-  module _ (linked : SameOrLinked C defs others j) (i : ℕ) (down : Bool) (scope : Scope) (ty : ASN1Type) where
+  module _ (linked : SameOrLinked C defs others j) (floor i : ℕ) (down : Bool) (scope : Scope) (ty : ASN1Type) where
     -- a head without parts
     plain_view : (l : TypeLayer) → ((N : Meaning) → lead_at defs N scope (kind_at l) ≡ IsHead) → ((cs : List Constraint) (N : Meaning) → lead_at others N Empty (kind_at (with_constraints_at l cs)) ≡ IsHead) →
-        ((cs : List Constraint) → KindForm C defs i scope (kind_at l) (kind_at (with_constraints_at l cs))) → ((cs : List Constraint) → Owns (with_constraints_at l cs) cs) →
-        Holds (constrained C defs (meaning defs i) (instance C defs i) scope ty l) (View i down scope ty l)
-    plain_view l f g h o = once_holds (constraints_made C defs i scope (place scope ty) (own l)) _ _ (λ ds e. Made f (g ds) (h ds) ds e (o ds))
+        ((cs : List Constraint) → KindForm C defs floor i scope (kind_at l) (kind_at (with_constraints_at l cs))) → ((cs : List Constraint) → Owns (with_constraints_at l cs) cs) →
+        Holds (constrained C defs (meaning defs floor) (instance C defs floor i) scope ty l) (View floor i down scope ty l)
+    plain_view l f g h o = once_holds (constraints_made C defs floor i scope (place scope ty) (own l)) _ _ (λ ds e. Made f (g ds) (h ds) ds e (o ds))
 
-    made_options : (os : List ChoiceOption) → Holds (of_options C defs (meaning defs i) (instance C defs i) scope os) (MadeOptions C defs i scope os)
+    made_options : (os : List ChoiceOption) → Holds (of_options C defs (meaning defs floor) (instance C defs floor i) scope os) (MadeOptions C defs floor i scope os)
     made_options [] = tt
     made_options (o ∷ os) =
-        then_holds (once None (option_instance C defs (meaning defs i) (instance C defs i) scope (out-ChoiceOption o)) (λ x. Some (roll-ChoiceOption x))) _ (λ p. option_instance C defs (meaning defs i) (instance C defs i) scope (out-ChoiceOption o) ≡ Some (out-ChoiceOption p)) _
-        (once_holds (option_instance C defs (meaning defs i) (instance C defs i) scope (out-ChoiceOption o)) _ _ (λ x e. e ∙ ap Some (sym (out-roll-ChoiceOption x)))) (λ p u e.
-        then_holds (of_options C defs (meaning defs i) (instance C defs i) scope os) _ (MadeOptions C defs i scope os) _ (made_options os) (λ ps v m. (e, m)))
+        then_holds (once None (option_instance C defs (meaning defs floor) (instance C defs floor i) scope (out-ChoiceOption o)) (λ x. Some (roll-ChoiceOption x))) _ (λ p. option_instance C defs (meaning defs floor) (instance C defs floor i) scope (out-ChoiceOption o) ≡ Some (out-ChoiceOption p)) _
+        (once_holds (option_instance C defs (meaning defs floor) (instance C defs floor i) scope (out-ChoiceOption o)) _ _ (λ x e. e ∙ ap Some (sym (out-roll-ChoiceOption x)))) (λ p u e.
+        then_holds (of_options C defs (meaning defs floor) (instance C defs floor i) scope os) _ (MadeOptions C defs floor i scope os) _ (made_options os) (λ ps v m. (e, m)))
 
-    made_members : (marker : Option ℕ) (number : ℕ) (ms : List Member) → Holds (of_members C defs (meaning defs i) (instance C defs i) marker number ms) (MadeMembers C defs i marker number ms)
+    made_members : (marker : Option ℕ) (number : ℕ) (ms : List Member) → Holds (of_members C defs (meaning defs floor) (instance C defs floor i) marker number ms) (MadeMembers C defs floor i marker number ms)
     made_members marker number [] = tt
     made_members marker number (m ∷ ms) = at (same_truth m.is_addition (is_addition_at marker number)) refl (made_members marker (suc number) ms)
       where
-        at : (c : Bool) → same_truth m.is_addition (is_addition_at marker number) ≡ c → Holds (of_members C defs (meaning defs i) (instance C defs i) marker (suc number) ms) (MadeMembers C defs i marker (suc number) ms) →
-            Holds (if c then once None (member_instance C defs (meaning defs i) (instance C defs i) m.scope m.written) (λ w. once None (of_members C defs (meaning defs i) (instance C defs i) marker (suc number) ms) (λ ws. Some (roll-SequenceOrSetMember w ∷ ws))) else None)
-            (MadeMembers C defs i marker number (m ∷ ms))
+        at : (c : Bool) → same_truth m.is_addition (is_addition_at marker number) ≡ c → Holds (of_members C defs (meaning defs floor) (instance C defs floor i) marker (suc number) ms) (MadeMembers C defs floor i marker (suc number) ms) →
+            Holds (if c then once None (member_instance C defs (meaning defs floor) (instance C defs floor i) m.scope m.written) (λ w. once None (of_members C defs (meaning defs floor) (instance C defs floor i) marker (suc number) ms) (λ ws. Some (roll-SequenceOrSetMember w ∷ ws))) else None)
+            (MadeMembers C defs floor i marker number (m ∷ ms))
         at false e h = tt
-        at true e h = once_holds (member_instance C defs (meaning defs i) (instance C defs i) m.scope m.written) _ _ (λ w u.
-            then_holds (of_members C defs (meaning defs i) (instance C defs i) marker (suc number) ms) _ (MadeMembers C defs i marker (suc number) ms) _ h (λ ws v p.
+        at true e h = once_holds (member_instance C defs (meaning defs floor) (instance C defs floor i) m.scope m.written) _ _ (λ w u.
+            then_holds (of_members C defs (meaning defs floor) (instance C defs floor i) marker (suc number) ms) _ (MadeMembers C defs floor i marker (suc number) ms) _ h (λ ws v p.
             (e, u ∙ ap Some (sym (out-roll-SequenceOrSetMember w)), p)))
 
     record StructView (x y : StructLayer) : Type 0 where
-      made : MadeStruct C defs i scope x y
-      constraints : constraints_made C defs i scope (place scope ty) x.constraints ≡ Some y.constraints
+      made : MadeStruct C defs floor i scope x y
+      constraints : constraints_made C defs floor i scope (place scope ty) x.constraints ≡ Some y.constraints
 
-    struct_view : (x : StructLayer) → Holds (struct_instance C defs (meaning defs i) (instance C defs i) scope ty x) (StructView x)
-    struct_view x = once_holds ((meaning defs i).members scope x) _ _ (λ ms e.
-        then_holds (of_members C defs (meaning defs i) (instance C defs i) (risen C defs (meaning defs i) (instance C defs i) x.extensible ms) 0 ms) _ (MadeMembers C defs i (risen C defs (meaning defs i) (instance C defs i) x.extensible ms) 0 ms) _ (made_members _ 0 ms) (λ ws u p.
-        once_holds (constraints_made C defs i scope (place scope ty) x.constraints) _ _ (λ cs f. record { made = (refl, (ms, e, p)); constraints = f })))
+    struct_view : (x : StructLayer) → Holds (struct_instance C defs (meaning defs floor) (instance C defs floor i) scope ty x) (StructView x)
+    struct_view x = once_holds ((meaning defs floor).members scope x) _ _ (λ ms e.
+        then_holds (of_members C defs (meaning defs floor) (instance C defs floor i) (risen C defs (meaning defs floor) (instance C defs floor i) x.extensible ms) 0 ms) _ (MadeMembers C defs floor i (risen C defs (meaning defs floor) (instance C defs floor i) x.extensible ms) 0 ms) _ (made_members _ 0 ms) (λ ws u p.
+        once_holds (constraints_made C defs floor i scope (place scope ty) x.constraints) _ _ (λ cs f. record { made = (refl, (ms, e, p)); constraints = f })))
 
     record ListView (x y : ListLayer) : Type 0 where
-      made : (instance C defs i).of_type false scope x.element_type ≡ Some y.element_type
-      constraints : constraints_made C defs i scope (place scope ty) x.constraints ≡ Some y.constraints
+      made : (instance C defs floor i).of_type false scope x.element_type ≡ Some y.element_type
+      constraints : constraints_made C defs floor i scope (place scope ty) x.constraints ≡ Some y.constraints
 
-    list_view : (x : ListLayer) → Holds (list_instance C defs (meaning defs i) (instance C defs i) scope ty x) (ListView x)
-    list_view x = once_holds ((instance C defs i).of_type false scope x.element_type) _ _ (λ e u. once_holds (constraints_made C defs i scope (place scope ty) x.constraints) _ _ (λ cs f. record { made = u; constraints = f }))
+    list_view : (x : ListLayer) → Holds (list_instance C defs (meaning defs floor) (instance C defs floor i) scope ty x) (ListView x)
+    list_view x = once_holds ((instance C defs floor i).of_type false scope x.element_type) _ _ (λ e u. once_holds (constraints_made C defs floor i scope (place scope ty) x.constraints) _ _ (λ cs f. record { made = u; constraints = f }))
 
-    replaced_view : (l : TypeLayer) (d : Option Target) → lead_at defs (meaning defs i) scope (kind_at l) ≡ leading d → Holds (replaced C defs (meaning defs i) (instance C defs i) down scope ty (own l) d) (View i down scope ty l)
+    replaced_view : (l : TypeLayer) (d : Option Target) → lead_at defs (meaning defs floor) scope (kind_at l) ≡ leading d → Holds (replaced C defs (meaning defs floor) (instance C defs floor i) down scope ty (own l) d) (View floor i down scope ty l)
     replaced_view l None e = tt
     replaced_view l (Some x) e =
-        once_holds ((instance C defs i).of_type down x.place.scope x.place.ty) _ _ (λ uy u. once_holds (constraints_made C defs i x.place.scope x.place x.constraints) _ _ (λ es v.
-        once_holds (constraints_made C defs i scope (place scope ty) (own l)) _ _ (λ ds w.
+        once_holds ((instance C defs floor i).of_type down x.place.scope x.place.ty) _ _ (λ uy u. once_holds (constraints_made C defs floor i x.place.scope x.place x.constraints) _ _ (λ es v.
+        once_holds (constraints_made C defs floor i scope (place scope ty) (own l)) _ _ (λ ds w.
         weaker (followed_by (out-ASN1Type uy) (es ++ ds)) (Followed (out-ASN1Type uy) (es ++ ds)) _ (followed (out-ASN1Type uy) (es ++ ds)) (λ r f. Replaced x e uy u es v ds w f))))
 
     -- a name that stays leads to the same, or to the instance
@@ -171,56 +180,56 @@ module _ (C : Choices) (defs others : Definitions) (j : ℕ) where
     opens (inr l) x k e = l.opens x k e
 
     reference_view : (x : ReferenceLayer) (c : Bool) → stays C down scope x ≡ c →
-        Holds (if c then constrained C defs (meaning defs i) (instance C defs i) scope ty (ASN1Type-F.ElsewhereDeclaredType x) else replaced C defs (meaning defs i) (instance C defs i) down scope ty x.constraints (reference_target defs scope x)) (View i down scope ty (ASN1Type-F.ElsewhereDeclaredType x))
-    reference_view x true e = then_holds (constraints_made C defs i scope (place scope ty) x.constraints) _ (λ ds. lists_in ds ≡ []) _ (unlisted C defs i scope (place scope ty) x.constraints) (λ ds u f.
-        Stayed (reference_target defs scope x) (reference_target others Empty (record x { constraints = ds })) (both_led linked x ds f x.parent e) (λ N. refl) (λ N. refl) ds u (inl refl))
+        Holds (if c then constrained C defs (meaning defs floor) (instance C defs floor i) scope ty (ASN1Type-F.ElsewhereDeclaredType x) else replaced C defs (meaning defs floor) (instance C defs floor i) down scope ty x.constraints (reference_target defs scope x)) (View floor i down scope ty (ASN1Type-F.ElsewhereDeclaredType x))
+    reference_view x true e = then_holds (constraints_made C defs floor i scope (place scope ty) x.constraints) _ (λ ds. lists_in ds ≡ []) _ (unlisted C defs floor i scope (place scope ty) x.constraints) (λ ds u f.
+        Stayed (record x { constraints = ds }) refl (stays_down C down scope x x.parent e) (reference_target defs scope x) (reference_target others Empty (record x { constraints = ds })) (both_led linked x ds f x.parent e) (λ N. refl) (λ N. refl) ds u (inl refl))
     reference_view x false e = replaced_view (ASN1Type-F.ElsewhereDeclaredType x) (reference_target defs scope x) refl
 
-    field_view : (x : ClassFieldLayer) (d : Option FieldType) → class_field_type defs scope x ≡ d → Holds (field_instance C defs (meaning defs i) (instance C defs i) down scope ty x d) (View i down scope ty (ASN1Type-F.InformationObjectFieldReference x))
+    field_view : (x : ClassFieldLayer) (d : Option FieldType) → class_field_type defs scope x ≡ d → Holds (field_instance C defs (meaning defs floor) (instance C defs floor i) down scope ty x d) (View floor i down scope ty (ASN1Type-F.InformationObjectFieldReference x))
     field_view x None e = tt
     field_view x (Some Open) e = at (C.keeps None x.class) refl
       where
-        at : (c : Bool) → C.keeps None x.class ≡ c → Holds (if c then constrained C defs (meaning defs i) (instance C defs i) scope ty (ASN1Type-F.InformationObjectFieldReference x) else None) (View i down scope ty (ASN1Type-F.InformationObjectFieldReference x))
+        at : (c : Bool) → C.keeps None x.class ≡ c → Holds (if c then constrained C defs (meaning defs floor) (instance C defs floor i) scope ty (ASN1Type-F.InformationObjectFieldReference x) else None) (View floor i down scope ty (ASN1Type-F.InformationObjectFieldReference x))
         at false k = tt
         at true k =
             let f = opens linked x k (open_again defs scope x e) in
             plain_view (ASN1Type-F.InformationObjectFieldReference x) (λ N. ap field_lead e) (λ cs N. ap field_lead f) (λ cs. (record x { constraints = cs }, refl)) (λ cs. inl refl)
     field_view x (Some (Fixed uy)) e = replaced_view (ASN1Type-F.InformationObjectFieldReference x) (Some (bare Empty uy)) (ap field_lead e)
 
-    pub view : (l : TypeLayer) → Holds (type_instance C defs (meaning defs i) (instance C defs i) down scope ty l) (View i down scope ty l)
+    pub view : (l : TypeLayer) → Holds (type_instance C defs (meaning defs floor) (instance C defs floor i) down scope ty l) (View floor i down scope ty l)
     view (ASN1Type-F.ElsewhereDeclaredType x) = reference_view x (stays C down scope x) refl
-    view (ASN1Type-F.ChoiceSelectionType x) = replaced_view (ASN1Type-F.ChoiceSelectionType x) (selection_target (meaning defs i) scope x) refl
+    view (ASN1Type-F.ChoiceSelectionType x) = replaced_view (ASN1Type-F.ChoiceSelectionType x) (selection_target (meaning defs floor) scope x) refl
     view (ASN1Type-F.InformationObjectFieldReference x) = field_view x (class_field_type defs scope x) refl
     view (ASN1Type-F.ASN1Type::Choice x) =
-        then_holds (of_options C defs (meaning defs i) (instance C defs i) scope (out-Choice x).options) _ (MadeOptions C defs i scope (out-Choice x).options) _ (made_options (out-Choice x).options) (λ os u m.
-        once_holds (constraints_made C defs i scope (place scope ty) (out-Choice x).constraints) _ _ (λ cs e.
+        then_holds (of_options C defs (meaning defs floor) (instance C defs floor i) scope (out-Choice x).options) _ (MadeOptions C defs floor i scope (out-Choice x).options) _ (made_options (out-Choice x).options) (λ os u m.
+        once_holds (constraints_made C defs floor i scope (place scope ty) (out-Choice x).constraints) _ _ (λ cs e.
         let y = record (out-Choice x) { options = os; constraints = cs } in
         Made (λ N. refl) (λ N. refl) (os, ap (λ z. ChoiceKind z.options) (out-roll-Choice y), m) cs e (inl (ap (λ z. z.constraints) (out-roll-Choice y)))))
-    view (ASN1Type-F.Sequence x) = then_holds (struct_instance C defs (meaning defs i) (instance C defs i) scope ty (out-SequenceOrSet x)) _ (StructView (out-SequenceOrSet x)) _ (struct_view (out-SequenceOrSet x)) (λ y u v.
+    view (ASN1Type-F.Sequence x) = then_holds (struct_instance C defs (meaning defs floor) (instance C defs floor i) scope ty (out-SequenceOrSet x)) _ (StructView (out-SequenceOrSet x)) _ (struct_view (out-SequenceOrSet x)) (λ y u v.
         Made (λ N. refl) (λ N. refl) (y, ap StructKind (out-roll-SequenceOrSet y), v.made) y.constraints v.constraints (inl (ap (λ z. z.constraints) (out-roll-SequenceOrSet y))))
-    view (ASN1Type-F.Set x) = then_holds (struct_instance C defs (meaning defs i) (instance C defs i) scope ty (out-SequenceOrSet x)) _ (StructView (out-SequenceOrSet x)) _ (struct_view (out-SequenceOrSet x)) (λ y u v.
+    view (ASN1Type-F.Set x) = then_holds (struct_instance C defs (meaning defs floor) (instance C defs floor i) scope ty (out-SequenceOrSet x)) _ (StructView (out-SequenceOrSet x)) _ (struct_view (out-SequenceOrSet x)) (λ y u v.
         Made (λ N. refl) (λ N. refl) (y, ap StructKind (out-roll-SequenceOrSet y), v.made) y.constraints v.constraints (inl (ap (λ z. z.constraints) (out-roll-SequenceOrSet y))))
-    view (ASN1Type-F.SequenceOf x) = then_holds (list_instance C defs (meaning defs i) (instance C defs i) scope ty (out-SequenceOrSetOf x)) _ (ListView (out-SequenceOrSetOf x)) _ (list_view (out-SequenceOrSetOf x)) (λ y u v.
+    view (ASN1Type-F.SequenceOf x) = then_holds (list_instance C defs (meaning defs floor) (instance C defs floor i) scope ty (out-SequenceOrSetOf x)) _ (ListView (out-SequenceOrSetOf x)) _ (list_view (out-SequenceOrSetOf x)) (λ y u v.
         Made (λ N. refl) (λ N. refl) (y.element_type, ap (λ z. ListKind z.element_type) (out-roll-SequenceOrSetOf y), v.made) y.constraints v.constraints (inl (ap (λ z. z.constraints) (out-roll-SequenceOrSetOf y))))
-    view (ASN1Type-F.SetOf x) = then_holds (list_instance C defs (meaning defs i) (instance C defs i) scope ty (out-SequenceOrSetOf x)) _ (ListView (out-SequenceOrSetOf x)) _ (list_view (out-SequenceOrSetOf x)) (λ y u v.
+    view (ASN1Type-F.SetOf x) = then_holds (list_instance C defs (meaning defs floor) (instance C defs floor i) scope ty (out-SequenceOrSetOf x)) _ (ListView (out-SequenceOrSetOf x)) _ (list_view (out-SequenceOrSetOf x)) (λ y u v.
         Made (λ N. refl) (λ N. refl) (y.element_type, ap (λ z. ListKind z.element_type) (out-roll-SequenceOrSetOf y), v.made) y.constraints v.constraints (inl (ap (λ z. z.constraints) (out-roll-SequenceOrSetOf y))))
-    view ASN1Type-F.ASN1Type::Null = plain_view ASN1Type-F.ASN1Type::Null (λ N. refl) (λ cs N. refl) (λ cs. refl) (λ cs. inr (refl, λ defs M scope. refl))
-    view ASN1Type-F.EmbeddedPdv = plain_view ASN1Type-F.EmbeddedPdv (λ N. refl) (λ cs N. refl) (λ cs. refl) (λ cs. inr (refl, λ defs M scope. refl))
-    view ASN1Type-F.External = plain_view ASN1Type-F.External (λ N. refl) (λ cs N. refl) (λ cs. refl) (λ cs. inr (refl, λ defs M scope. refl))
+    view ASN1Type-F.ASN1Type::Null = plain_view ASN1Type-F.ASN1Type::Null (λ N. refl) (λ cs N. refl) (λ cs. refl) (λ cs. inr (refl, (λ defs M scope. refl), refl))
+    view ASN1Type-F.EmbeddedPdv = plain_view ASN1Type-F.EmbeddedPdv (λ N. refl) (λ cs N. refl) (λ cs. refl) (λ cs. inr (refl, (λ defs M scope. refl), refl))
+    view ASN1Type-F.External = plain_view ASN1Type-F.External (λ N. refl) (λ cs N. refl) (λ cs. refl) (λ cs. inr (refl, (λ defs M scope. refl), refl))
     view l = plain_view l (λ N. refl) (λ cs N. refl) (λ cs. refl) (λ cs. inl refl)
 
   -- ---- one step
 
-  pub no_type : (down : Bool) (scope : Scope) (ty uy : ASN1Type) → (instance C defs zero).of_type down scope ty ≡ Some uy → ⊥
+  pub no_type : (floor : ℕ) (down : Bool) (scope : Scope) (ty uy : ASN1Type) → (instance C defs floor zero).of_type down scope ty ≡ Some uy → ⊥
   unfolding instance no_instance
-  no_type down scope ty uy p = cc
+  no_type floor down scope ty uy p = cc
 
-  type_unfolds : (i : ℕ) (down : Bool) (scope : Scope) (ty : ASN1Type) → (instance C defs (suc i)).of_type down scope ty ≡ once None (type_instance C defs (meaning defs i) (instance C defs i) down scope ty (out-ASN1Type ty)) (λ l. Some (roll-ASN1Type l))
+  type_unfolds : (floor i : ℕ) (down : Bool) (scope : Scope) (ty : ASN1Type) → (instance C defs floor (suc i)).of_type down scope ty ≡ once None (type_instance C defs (meaning defs floor) (instance C defs floor i) down scope ty (out-ASN1Type ty)) (λ l. Some (roll-ASN1Type l))
   unfolding instance
-  type_unfolds i down scope ty = refl
+  type_unfolds floor i down scope ty = refl
 
-  pub viewed : SameOrLinked C defs others j → (i : ℕ) (down : Bool) (scope : Scope) (ty uy : ASN1Type) → (instance C defs (suc i)).of_type down scope ty ≡ Some uy → View i down scope ty (out-ASN1Type ty) (out-ASN1Type uy)
-  viewed linked i down scope ty uy e = rolled roll-ASN1Type out-ASN1Type out-roll-ASN1Type _ (View i down scope ty (out-ASN1Type ty)) uy (view linked i down scope ty (out-ASN1Type ty)) (sym (type_unfolds i down scope ty) ∙ e)
+  pub viewed : SameOrLinked C defs others j → (floor i : ℕ) (down : Bool) (scope : Scope) (ty uy : ASN1Type) → (instance C defs floor (suc i)).of_type down scope ty ≡ Some uy → View floor i down scope ty (out-ASN1Type ty) (out-ASN1Type uy)
+  viewed linked floor i down scope ty uy e = rolled roll-ASN1Type out-ASN1Type out-roll-ASN1Type _ (View floor i down scope ty (out-ASN1Type ty)) uy (view linked floor i down scope ty (out-ASN1Type ty)) (sym (type_unfolds floor i down scope ty) ∙ e)
 
 -- ---- leads
 
@@ -270,8 +279,8 @@ module _ (C : Choices) (defs others : Definitions) (j : ℕ) (way : Way) (M L : 
   -- where lists differ that are a layer's own or that nobody asks
   pub upto_lists : (r : TypeLayer) (ry : ASN1Type) (cs ds : List Constraint) (t : ValueTree) → Beside r (out-ASN1Type ry) → Owns r cs → accepts_upto others L (place Empty ry) (cs ++ ds) t ≡ accepts_upto others L (place Empty ry) (own r ++ ds) t
   upto_lists r ry cs ds t s (inl e) = ap (λ z. accepts_upto others L (place Empty ry) (z ++ ds) t) (sym e)
-  upto_lists r ry cs ds t s (inr (free, heads)) = free_accepts r ry s free heads t (cs ++ ds) (own r ++ ds) (found r ry s free heads)
+  upto_lists r ry cs ds t s (inr (free, heads, none)) = free_accepts r ry s free heads t (cs ++ ds) (own r ++ ds) (found r ry s free heads)
 
   pub numbers_lists : (r : TypeLayer) (ry : ASN1Type) (cs ds : List Constraint) → Beside r (out-ASN1Type ry) → Owns r cs → numbers_upto others L (place Empty ry) (cs ++ ds) ≡ numbers_upto others L (place Empty ry) (own r ++ ds)
   numbers_lists r ry cs ds s (inl e) = ap (λ z. numbers_upto others L (place Empty ry) (z ++ ds)) (sym e)
-  numbers_lists r ry cs ds s (inr (free, heads)) = free_leaves r ry s free heads (cs ++ ds) (own r ++ ds) (found r ry s free heads)
+  numbers_lists r ry cs ds s (inr (free, heads, none)) = free_leaves r ry s free heads (cs ++ ds) (own r ++ ds) (found r ry s free heads)

@@ -12,3 +12,13 @@ pub mod KeptTypes
 pub mod KeptSteps
 pub mod Kept
 pub mod Literals
+pub mod LiteralsSteady
+pub mod MoreLevels
+pub mod Eventually
+pub mod PlainParts
+pub mod PlainElements
+pub mod PlainTypes
+pub mod LiteralsPlain
+pub mod StayingNames
+pub mod FewerNames
+pub mod FewerTypes

@@ -8,7 +8,7 @@ use Rattle.asn_tree.specs.declared.values.ASN1Value.{ASN1Value}
 use Rattle.asn_meaning.specs.Answers.{Answer, Denotation, Denoted, No, Nothing, Refines, Settles, Unknown, Unsure, Yes, made_of, once}
 use Rattle.asn_meaning.specs.Braces.{elements_written, fields_written}
 use Rattle.asn_meaning.specs.Definitions.{Definitions, value_named}
-use Rattle.asn_meaning.specs.Denotes.{choice_row, defined_denoted, defined_read, denoted_under, is_open_kind, name_denoted, own_in, own_or_defined, parts_row, row_or_parts, struct_denoted, trees_denoted, value_denoted, written_denoted}
+use Rattle.asn_meaning.specs.Denotes.{choice_row, defined_denoted, defined_read, denoted_under, is_open_kind, item_in, name_denoted, own_in, own_or_defined, parts_row, row_or_parts, struct_denoted, trees_denoted, value_denoted, written_denoted}
 use Rattle.asn_meaning.specs.Everything.{defined_is_all, is_all_at, name_is_all, read_is_all}
 use Rattle.asn_meaning.specs.Judge.{meaning, nothing_known, step}
 use Rattle.asn_meaning.specs.Kinds.{BitStringKind, BooleanKind, ChoiceKind, EnumeratedKind, FieldKind, IntegerKind, Kind, ListKind, NullKind, OctetStringKind, ReferenceKind, SelectionKind, StructKind, kind_of}
@@ -33,7 +33,7 @@ use Rattle.asn_tree.specs.declared.values.ASN1Value.TheVariants as value
 -- ---- literals
 
 -- whether it is ALL
-answer_all : Written → Answer
+unfoldable pub answer_all : Written → Answer
 answer_all AllWritten = Yes
 answer_all _ = No
 
@@ -58,7 +58,7 @@ literal (OctetsWritten x) e = record { denoted = λ defs M s h. refl; fields = r
 literal _ e = absurd cc
 
 -- what a literal denotes under a head, by the head's row alone
-by_row : Option (Written → Option ValueTree) → Written → Denotation ValueTree
+unfoldable pub by_row : Option (Written → Option ValueTree) → Written → Denotation ValueTree
 by_row k w = row_or_parts k Nothing w
 
 no_parts : (M : Meaning) (s inside : Scope) (w : Written) → Literal w → (kind : Kind) → is_own_head kind ≡ true → row_or_parts (row kind) (parts_row M s w inside kind) w ≡ row_or_parts (row kind) Nothing w
@@ -97,7 +97,7 @@ names_blind name = record { structs = λ x y. refl; lists = λ x y. refl; choice
 -- ---- from a number of steps on
 
 -- from so many steps on a value denotes this, and this is said of whether it is ALL
-abbrev From : Definitions → ℕ → Scope → ASN1Value → Place → Denotation ValueTree → Answer → Type 0
+abbrev pub From : Definitions → ℕ → Scope → ASN1Value → Place → Denotation ValueTree → Answer → Type 0
 From defs k s v p d a = (n : ℕ) → ((meaning defs (k + n)).denotes s v p ≡ d) × ((meaning defs (k + n)).is_all s v p ≡ a)
 
 module _ (defs : Definitions) where
@@ -119,7 +119,7 @@ module _ (defs : Definitions) where
   unfolding meaning step
   literal_all n s v p k = k.all defs (meaning defs n) s p
 
-  literal_from : (s : Scope) (v : ASN1Value) (p : Place) → is_own_head (kind_of p) ≡ true → is_literal (as_written v) ≡ true → From defs 2 s v p (by_row (row (kind_of p)) (as_written v)) (answer_all (as_written v))
+  pub literal_from : (s : Scope) (v : ASN1Value) (p : Place) → is_own_head (kind_of p) ≡ true → is_literal (as_written v) ≡ true → From defs 2 s v p (by_row (row (kind_of p)) (as_written v)) (answer_all (as_written v))
   literal_from s v p e is n =
       let k = literal (as_written v) is in
       (ap (λ z. (meaning defs z).denotes s v p) (two n) ∙ literal_denotes n s v p e k, ap (λ z. (meaning defs z).is_all s v p) (two n) ∙ literal_all (suc n) s v p k)
@@ -143,15 +143,15 @@ module _ (defs : Definitions) where
         ∙ ap (λ z. once Unknown z (defined_is_all defs (meaning defs (suc n)) name)) (own_found n p own)
         ∙ ap (λ z. if is_some z then No else once No (value_named defs name) (λ d. read_is_all (meaning defs (suc n)) (defined_read d))) has
 
-    item_from : From defs 2 s v p (Denoted t) No
+    pub item_from : From defs 2 s v p (Denoted t) No
     item_from n = (ap (λ z. (meaning defs z).denotes s v p) (two n) ∙ item_denotes n, ap (λ z. (meaning defs z).is_all s v p) (two n) ∙ item_all n)
 
 -- ---- the literal of a tree
 
-record WrittenOf (kind : Kind) (t : ValueTree) (w : ASN1Value) : Type 0 where
-  is : is_literal (as_written w) ≡ true
-  denotes : by_row (row kind) (as_written w) ≡ Denoted t
-  not_all : answer_all (as_written w) ≡ No
+pub record WrittenOf (kind : Kind) (t : ValueTree) (w : ASN1Value) : Type 0 where
+  pub is : is_literal (as_written w) ≡ true
+  pub denotes : by_row (row kind) (as_written w) ≡ Denoted t
+  pub not_all : answer_all (as_written w) ≡ No
 
 made_literal : (kind : Kind) (t : ValueTree) (w : ASN1Value) (u : Written) → as_written w ≡ u → is_literal u ≡ true → by_row (row kind) u ≡ Denoted t → answer_all u ≡ No → WrittenOf kind t w
 made_literal kind t w u s e f g = record {
@@ -161,12 +161,13 @@ made_literal kind t w u s e f g = record {
 }
 
 -- the name of an item
-record NameOf (kind : Kind) (t : ValueTree) (w : ASN1Value) : Type 0 where
-  name : List ℕ
-  is : as_written w ≡ NameWritten None name
-  own : own_in name kind ≡ Some t
+pub record NameOf (kind : Kind) (t : ValueTree) (w : ASN1Value) : Type 0 where
+  pub name : List ℕ
+  pub is : as_written w ≡ NameWritten None name
+  pub own : own_in name kind ≡ Some t
+  pub item : item_in name kind ≡ Some t
 
-abbrev Means : Kind → ValueTree → ASN1Value → Type 0
+abbrev pub Means : Kind → ValueTree → ASN1Value → Type 0
 Means kind t w = WrittenOf kind t w ⊎ NameOf kind t w
 
 same_number_is : (k i : ℤ) → same_number k i ≡ true → k ≡ i
@@ -182,7 +183,7 @@ numbered items i = once_holds (find (λ item. same_number item.index i) items) _
 written_of : (kind : Kind) (t : ValueTree) → Holds (written kind t) (Means kind t)
 unfolding by_row answer_all
 written_of (EnumeratedKind items) (ItemNumber i) = then_holds (item_numbered items i) _ (λ name. once None (item_named items name) (λ k. Some (ItemNumber k)) ≡ Some (ItemNumber i)) _ (numbered items i) (λ name u e.
-    inr (record { name = name; is = ap written_at (value.outs-ElsewhereDeclaredValue None name); own = e }))
+    inr (record { name = name; is = ap written_at (value.outs-ElsewhereDeclaredValue None name); own = e; item = e }))
 written_of NullKind NullValue = inl (made_literal NullKind NullValue value.Null NullWritten (ap written_at value.outs-Null) refl refl refl)
 written_of BooleanKind (TruthValue b) = inl (made_literal BooleanKind (TruthValue b) (value.Boolean b) (TruthWritten b) (ap written_at (value.outs-Boolean b)) refl refl refl)
 written_of (IntegerKind names) (WholeNumber i) = inl (made_literal (IntegerKind names) (WholeNumber i) (value.Integer i) (NumberWritten i) (ap written_at (value.outs-Integer i)) refl refl refl)
@@ -192,7 +193,7 @@ written_of _ _ = tt
 
 -- ---- what is chosen
 
-abbrev Chosen : Scope → Answer → Denotation ValueTree → Kind → ASN1Value → ASN1Value → Type 0
+abbrev pub Chosen : Scope → Answer → Denotation ValueTree → Kind → ASN1Value → ASN1Value → Type 0
 Chosen scope a d kind v w =
     ((is_literal (as_written v) ≡ true) × (w ≡ v)) ⊎ (((w ≡ v) × ((t : ValueTree) × (k : NameOf kind t v) × (bound_to scope k.name ≡ None))) ⊎ ((t : ValueTree) × (a ≡ No) × (d ≡ Denoted t) × Means kind t w))
 
@@ -211,7 +212,7 @@ item_is : (scope : Scope) (kind : Kind) (v : ASN1Value) (u : Written) → as_wri
 item_is scope (EnumeratedKind items) v (NameWritten None name) same e = at (bound_to scope name) refl (item_named items name) refl e
   where
     at : (a : Option Bound) → bound_to scope name ≡ a → (c : Option ℤ) → item_named items name ≡ c → (is_none a && is_some c) ≡ true → (t : ValueTree) × (k : NameOf (EnumeratedKind items) t v) × (bound_to scope k.name ≡ None)
-    at None f (Some i) g e = (ItemNumber i, record { name = name; is = same; own = ap (λ z. once None z (λ i. Some (ItemNumber i))) g }, f)
+    at None f (Some i) g e = (ItemNumber i, record { name = name; is = same; own = ap (λ z. once None z (λ i. Some (ItemNumber i))) g; item = ap (λ z. once None z (λ i. Some (ItemNumber i))) g }, f)
     at None f None g e = absurd cc
     at (Some a) f c g e = absurd cc
 item_is scope kind v u same e = absurd cc
@@ -220,7 +221,7 @@ or_is : (a c : Bool) → (a || c) ≡ true → (a ≡ true) ⊎ (c ≡ true)
 or_is true c e = inl refl
 or_is false c e = inr e
 
-chosen : (M : Meaning) (scope : Scope) (v : ASN1Value) (p : Place) → Holds (value_written M scope v p) (λ w. (is_own_head (kind_of p) ≡ true) × Chosen scope (M.is_all scope v p) (M.denotes scope v p) (kind_of p) v w)
+pub chosen : (M : Meaning) (scope : Scope) (v : ASN1Value) (p : Place) → Holds (value_written M scope v p) (λ w. (is_own_head (kind_of p) ≡ true) × Chosen scope (M.is_all scope v p) (M.denotes scope v p) (kind_of p) v w)
 chosen M scope v p = at (is_own_head (kind_of p)) refl (is_literal (as_written v) || is_item_name scope (kind_of p) (as_written v)) refl
   where
     stays : (is_literal (as_written v) ≡ true) ⊎ (is_item_name scope (kind_of p) (as_written v) ≡ true) → Chosen scope (M.is_all scope v p) (M.denotes scope v p) (kind_of p) v v
@@ -262,7 +263,7 @@ module _ (defs : Definitions) (k : ℕ) (s : Scope) (v : ASN1Value) (p : Place) 
       let same : n + k ≡ k + n = omega arith in
       settles_on _ _ d (subst (λ z. Settles ((meaning defs n).denotes s v p) ((meaning defs z).denotes s v p)) same ((more_known defs n k).denotes s v p)) (from n).0
 
-  all_less : (n : ℕ) → Refines ((meaning defs n).is_all s v p) a
+  pub all_less : (n : ℕ) → Refines ((meaning defs n).is_all s v p) a
   all_less n =
       let same : n + k ≡ k + n = omega arith in
       refines_on _ _ a (subst (λ z. Refines ((meaning defs n).is_all s v p) ((meaning defs z).is_all s v p)) same ((more_known defs n k).is_all s v p)) (from n).1
@@ -368,7 +369,7 @@ module _ (keeps : Option (List ℕ) → List ℕ → Bool) (defs others : Defini
 
   -- ---- ALL
 
-  all_or_is : (a : Answer) (o : Option ASN1Value) (w : ASN1Value) → all_or a o ≡ Some w → ((a ≡ Yes) × (w ≡ value.All)) ⊎ (o ≡ Some w)
+  pub all_or_is : (a : Answer) (o : Option ASN1Value) (w : ASN1Value) → all_or a o ≡ Some w → ((a ≡ Yes) × (w ≡ value.All)) ⊎ (o ≡ Some w)
   all_or_is Yes o w e = inl (refl, sym (some_same value.All w e))
   all_or_is No o w e = inr e
   all_or_is Unknown o w e = inr e

@@ -19,42 +19,42 @@ use Rattle.asn_instance.specs.Subjects.{Choices}
 use Rattle.asn_instance.specs.Ways.{Way, Forth, Back, Refined, Settled, steps_back}
 
 module _ (C : Choices) (defs : Definitions) where
-  -- what instances of one number of steps make of constraints
-  abbrev pub constraints_made : ℕ → Scope → Place → List Constraint → Option (List Constraint)
-  constraints_made k = of_constraints C defs (meaning defs k) (instance C defs k)
+  -- what instances of one number of levels make of constraints, by what `n` steps tell at the lowest
+  abbrev pub constraints_made : ℕ → ℕ → Scope → Place → List Constraint → Option (List Constraint)
+  constraints_made n k = of_constraints C defs (meaning defs n) (instance C defs n k)
 
-  abbrev pub MadeOptions : ℕ → Scope → List ChoiceOption → List ChoiceOption → Type 0
-  MadeOptions k scope [] [] = Unit {0}
-  MadeOptions k scope (o ∷ os) (p ∷ ps) = (option_instance C defs (meaning defs k) (instance C defs k) scope (out-ChoiceOption o) ≡ Some (out-ChoiceOption p)) × MadeOptions k scope os ps
-  MadeOptions k scope _ _ = ⊥
+  abbrev pub MadeOptions : ℕ → ℕ → Scope → List ChoiceOption → List ChoiceOption → Type 0
+  MadeOptions n k scope [] [] = Unit {0}
+  MadeOptions n k scope (o ∷ os) (p ∷ ps) = (option_instance C defs (meaning defs n) (instance C defs n k) scope (out-ChoiceOption o) ≡ Some (out-ChoiceOption p)) × MadeOptions n k scope os ps
+  MadeOptions n k scope _ _ = ⊥
 
-  abbrev pub MadeMembers : ℕ → Option ℕ → ℕ → List Member → List SequenceOrSetMember → Type 0
-  MadeMembers k marker number [] [] = Unit {0}
-  MadeMembers k marker number (m ∷ ms) (w ∷ ws) =
+  abbrev pub MadeMembers : ℕ → ℕ → Option ℕ → ℕ → List Member → List SequenceOrSetMember → Type 0
+  MadeMembers n k marker number [] [] = Unit {0}
+  MadeMembers n k marker number (m ∷ ms) (w ∷ ws) =
       (same_truth m.is_addition (is_addition_at marker number) ≡ true)
-      × (member_instance C defs (meaning defs k) (instance C defs k) m.scope m.written ≡ Some (out-SequenceOrSetMember w))
-      × MadeMembers k marker (suc number) ms ws
-  MadeMembers k marker number _ _ = ⊥
+      × (member_instance C defs (meaning defs n) (instance C defs n k) m.scope m.written ≡ Some (out-SequenceOrSetMember w))
+      × MadeMembers n k marker (suc number) ms ws
+  MadeMembers n k marker number _ _ = ⊥
 
-  abbrev pub MadeStruct : ℕ → Scope → StructLayer → StructLayer → Type 0
-  MadeStruct k scope x y = (y.components_of ≡ []) × ((ms : List Member) × ((meaning defs k).members scope x ≡ Some ms) × MadeMembers k y.extensible 0 ms y.members)
+  abbrev pub MadeStruct : ℕ → ℕ → Scope → StructLayer → StructLayer → Type 0
+  MadeStruct n k scope x y = (y.components_of ≡ []) × ((ms : List Member) × ((meaning defs n).members scope x ≡ Some ms) × MadeMembers n k y.extensible 0 ms y.members)
 
   -- the kind of a head, read in a scope, and what an instance makes of it
-  abbrev pub KindForm : ℕ → Scope → Kind → Kind → Type 0
-  KindForm k scope (StructKind x) l = (y : StructLayer) × (l ≡ StructKind y) × MadeStruct k scope x y
-  KindForm k scope (ListKind ty) l = (uy : ASN1Type) × (l ≡ ListKind uy) × ((instance C defs k).of_type false scope ty ≡ Some uy)
-  KindForm k scope (ChoiceKind os) l = (ps : List ChoiceOption) × (l ≡ ChoiceKind ps) × MadeOptions k scope os ps
-  KindForm k scope (FieldKind x) l = (y : ClassFieldLayer) × (l ≡ FieldKind y)
-  KindForm k scope (ReferenceKind x) l = ⊥
-  KindForm k scope (SelectionKind x) l = ⊥
-  KindForm k scope kind l = l ≡ kind
+  abbrev pub KindForm : ℕ → ℕ → Scope → Kind → Kind → Type 0
+  KindForm n k scope (StructKind x) l = (y : StructLayer) × (l ≡ StructKind y) × MadeStruct n k scope x y
+  KindForm n k scope (ListKind ty) l = (uy : ASN1Type) × (l ≡ ListKind uy) × ((instance C defs n k).of_type false scope ty ≡ Some uy)
+  KindForm n k scope (ChoiceKind os) l = (ps : List ChoiceOption) × (l ≡ ChoiceKind ps) × MadeOptions n k scope os ps
+  KindForm n k scope (FieldKind x) l = (y : ClassFieldLayer) × (l ≡ FieldKind y)
+  KindForm n k scope (ReferenceKind x) l = ⊥
+  KindForm n k scope (SelectionKind x) l = ⊥
+  KindForm n k scope kind l = l ≡ kind
 
-  -- by an instance of less than so many steps
+  -- fewer than so many steps; an instance of `k` levels over `n` steps is one of `n + k`
   abbrev pub Before : ℕ → ℕ → Type 0
   Before j k = (d : ℕ) × (k + suc d ≡ j)
 
   abbrev pub MadeHead : ℕ → Place → Place → Type 0
-  MadeHead j h k = (k.scope ≡ Empty) × ((i : ℕ) × Before j i × KindForm i h.scope (kind_of h) (kind_of k))
+  MadeHead j h k = (k.scope ≡ Empty) × ((n i : ℕ) × Before j (n + i) × KindForm n i h.scope (kind_of h) (kind_of k))
 
 -- a head without parts, which means the same under all definitions
 abbrev pub is_simple : Kind → Bool

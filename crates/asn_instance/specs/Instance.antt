@@ -29,7 +29,7 @@ use Rattle.asn_meaning.specs.ValueTrees.{same_truth}
 use Rattle.asn_calls.specs.Types.{with_constraints_at}
 use Rattle.asn_instance.specs.Subjects.{Subject, OnValues, OnCharacters, values_read, ends_read, Choices, gathered, traversed, perhaps}
 
--- What is known within a number of steps of instances. `down` asks for the type down to the head: there a plain name is
+-- What is found of instances within a number of levels. `down` asks for the type down to the head: there a plain name is
 -- followed too.
 pub record Instances : Type 0 where
   pub of_type : Bool → Scope → ASN1Type → Option ASN1Type
@@ -211,7 +211,7 @@ module _ (C : Choices) (defs : Definitions) (M : Meaning) (I : Instances) where
   type_instance down scope ty (ASN1Type-F.SetOf x) = once None (list_instance scope ty (out-SequenceOrSetOf x)) (λ y. Some (ASN1Type-F.SetOf (roll-SequenceOrSetOf y)))
   type_instance down scope ty l = constrained scope ty l
 
-  -- one step more
+  -- one level more
   abbrev pub instance_at : Instances
   instance_at = record {
     of_type = λ down scope ty. once None (type_instance down scope ty (out-ASN1Type ty)) (λ l. Some (roll-ASN1Type l));
@@ -220,11 +220,11 @@ module _ (C : Choices) (defs : Definitions) (M : Meaning) (I : Instances) where
     of_element = λ scope j e. once None (element_instance scope j (out-SubtypeElement e)) (λ l. Some (roll-SubtypeElement l));
   }
 
--- nothing is known without steps
+-- nothing is found without levels
 unfoldable pub no_instance : Instances
 no_instance = record { of_type = λ down scope ty. None; of_set = λ scope j set. None; of_element = λ scope j e. None; of_tag = λ scope ty. None }
 
--- The instances that are found within a number of steps.
-unfoldable pub instance : Choices → Definitions → ℕ → Instances
-instance C defs zero = no_instance
-instance C defs (suc n) = instance_at C defs (meaning defs n) (instance C defs n)
+-- The instances that are found within so many levels, by what `n` steps tell.
+unfoldable pub instance : Choices → Definitions → ℕ → ℕ → Instances
+instance C defs n zero = no_instance
+instance C defs n (suc k) = instance_at C defs (meaning defs n) (instance C defs n k)

@@ -5,35 +5,41 @@ use Rattle.asn_tree.specs.declared.types.ASN1Type.{ASN1Type}
 use Rattle.asn_meaning.specs.Accepts.{judge, Accepts, Rejects}
 use Rattle.asn_meaning.specs.Answers.{Refines}
 use Rattle.asn_meaning.specs.Definitions.{Definitions, type_named}
+use Rattle.asn_meaning.specs.Plain.{IsPlain}
 use Rattle.asn_meaning.specs.Scopes.{Scope, Empty}
 use Rattle.asn_meaning.specs.ValueTrees.{ValueTree}
+use Rattle.asn_instance.specs.Fewer.{AreFewer, FallsAlike, with_names}
 use Rattle.asn_instance.specs.Heads.{KeepsValues, KeepsValuesBack}
 use Rattle.asn_instance.specs.Instance.{instance}
 use Rattle.asn_instance.specs.Linked.{LinkedBy, SameOrLinked}
 use Rattle.asn_instance.specs.Literals.{literals}
+use Rattle.asn_instance.specs.Plain.{WritesPlain}
+use Rattle.asn_instance.specs.Staying.{Names, NamesStay}
+use Rattle.asn_instance.specs.Steady.{FoundAgain, Steady}
 use Rattle.asn_instance.specs.Subjects.{Choices}
 use Rattle.asn_instance.specs.Ways.{steps_back}
 
--- Substitution equals look-up, by steps: what Judge says of a type in its scope within n steps, it says of the instance in
--- the empty scope within as many more as the instance took, and one.
+-- Substitution equals look-up, by steps: what Judge says of a type in its scope within m steps, it says of the instance in
+-- the empty scope within as many more as the instance took, steps and levels, and one.
 abbrev pub InstanceKept : Type 0
 InstanceKept =
-    (C : Choices) (defs others : Definitions) (k : ℕ) → SameOrLinked C defs others (suc k) → KeepsValues C defs others (suc k) →
-    (n : ℕ) (down : Bool) (scope : Scope) (ty uy : ASN1Type) (t : ValueTree) → (instance C defs k).of_type down scope ty ≡ Some uy →
-    Refines (judge defs n scope ty t) (judge others (n + suc k) Empty uy t)
+    (C : Choices) (defs others : Definitions) (n k : ℕ) → SameOrLinked C defs others (suc (n + k)) → KeepsValues C defs others (suc (n + k)) →
+    (m : ℕ) (down : Bool) (scope : Scope) (ty uy : ASN1Type) (t : ValueTree) → (instance C defs n k).of_type down scope ty ≡ Some uy →
+    Refines (judge defs m scope ty t) (judge others (m + suc (n + k)) Empty uy t)
 
--- And back: what Judge says of the instance within n steps, it says of the type in its scope within (n + 1) * (k + 1).
+-- And back: what Judge says of the instance within m steps, it says of the type in its scope within (m + 1) * (n + k + 1).
 abbrev pub InstanceKeptBack : Type 0
 InstanceKeptBack =
-    (C : Choices) (defs others : Definitions) (k : ℕ) → SameOrLinked C defs others (suc k) → KeepsValuesBack C defs others (suc k) →
-    (n : ℕ) (down : Bool) (scope : Scope) (ty uy : ASN1Type) (t : ValueTree) → (instance C defs k).of_type down scope ty ≡ Some uy →
-    Refines (judge others n Empty uy t) (judge defs (steps_back (suc k) n) scope ty t)
+    (C : Choices) (defs others : Definitions) (n k : ℕ) → SameOrLinked C defs others (suc (n + k)) → KeepsValuesBack C defs others (suc (n + k)) →
+    (m : ℕ) (down : Bool) (scope : Scope) (ty uy : ASN1Type) (t : ValueTree) → (instance C defs n k).of_type down scope ty ≡ Some uy →
+    Refines (judge others m Empty uy t) (judge defs (steps_back (suc (n + k)) m) scope ty t)
 
 -- A type in its scope and its instance in the empty scope accept and reject the same trees.
 abbrev pub Substitution : Type 0
 Substitution =
-    (C : Choices) (defs others : Definitions) (k : ℕ) → SameOrLinked C defs others (suc k) → KeepsValues C defs others (suc k) → KeepsValuesBack C defs others (suc k) →
-    (down : Bool) (scope : Scope) (ty uy : ASN1Type) (t : ValueTree) → (instance C defs k).of_type down scope ty ≡ Some uy →
+    (C : Choices) (defs others : Definitions) (n k : ℕ) → SameOrLinked C defs others (suc (n + k)) → KeepsValues C defs others (suc (n + k)) →
+    KeepsValuesBack C defs others (suc (n + k)) →
+    (down : Bool) (scope : Scope) (ty uy : ASN1Type) (t : ValueTree) → (instance C defs n k).of_type down scope ty ≡ Some uy →
     (Accepts defs scope ty t ↔ Accepts others Empty uy t) × (Rejects defs scope ty t ↔ Rejects others Empty uy t)
 
 -- Where linking made each type definition its instance, the type that a name stands for which may stay accepts and rejects the
@@ -50,3 +56,33 @@ LinkedTypesMeanTheSame =
 abbrev pub LiteralsKept : Type 0
 LiteralsKept =
     (keeps : Option (List ℕ) → List ℕ → Bool) (defs others : Definitions) (j : ℕ) → KeepsValues (literals keeps) defs others j × KeepsValuesBack (literals keeps) defs others j
+
+-- What is found within some levels, by what some steps tell, is found, the same, within one level more and by one step more.
+abbrev pub MoreLevels : Type 0
+MoreLevels =
+    (C : Choices) (defs : Definitions) → Steady C defs → (n k : ℕ) →
+    FoundAgain (instance C defs n k) (instance C defs n (suc k)) × FoundAgain (instance C defs n k) (instance C defs (suc n) k)
+
+-- Literals stay as they are where more steps tell more.
+abbrev pub LiteralsSteady : Type 0
+LiteralsSteady = (keeps : Option (List ℕ) → List ℕ → Bool) (defs : Definitions) → Steady (literals keeps) defs
+
+-- An instance is in plain form, over the definitions that it is read with, where values are written plainly and keep what they
+-- mean.
+abbrev pub InstancesArePlain : Type 0
+InstancesArePlain =
+    (C : Choices) (defs others : Definitions) (n k : ℕ) → SameOrLinked C defs others (suc (n + k)) → KeepsValues C defs others (suc (n + k)) →
+    WritesPlain C defs others (suc (n + k)) →
+    (down : Bool) (scope : Scope) (ty uy : ASN1Type) → (instance C defs n k).of_type down scope ty ≡ Some uy → IsPlain others uy
+
+-- Literals and the names of items are written plainly.
+abbrev pub LiteralsPlain : Type 0
+LiteralsPlain = (keeps : Option (List ℕ) → List ℕ → Bool) (defs others : Definitions) (j : ℕ) → WritesPlain (literals keeps) defs others j
+
+-- Where fewer names may stay, the same instance is found if each name that stays in it may, and what is made of constraints
+-- that fall away is made too.
+abbrev pub FewerNames : Type 0
+FewerNames =
+    (C : Choices) (fewer : Names) (defs : Definitions) (n k : ℕ) → AreFewer fewer C → FallsAlike C fewer defs n k →
+    (down : Bool) (scope : Scope) (ty uy : ASN1Type) → (instance C defs n k).of_type down scope ty ≡ Some uy → NamesStay fewer uy →
+    (instance (with_names C fewer) defs n k).of_type down scope ty ≡ Some uy

@@ -5,4 +5,8 @@ pub mod Heads
 pub mod Linked
 pub mod Tables
 pub mod Literals
+pub mod Steady
+pub mod Plain
+pub mod Staying
+pub mod Fewer
 pub mod Laws

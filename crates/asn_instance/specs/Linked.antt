@@ -1,5 +1,5 @@
 -- Definitions whose types are instances.
-use Rattle.std.specs.Prelude.{◌≡◌, ◌⊎◌, ℕ, List, [], true, false, Option, Some, None}
+use Rattle.std.specs.Prelude.{◌≡◌, ◌⊎◌, ℕ, ◌+◌, List, [], true, false, Option, Some, None}
 use Rattle.asn_tree.specs.declared.types.ASN1Type.{ASN1Type}
 use Rattle.asn_meaning.specs.Answers.{once}
 use Rattle.asn_meaning.specs.Definitions.{Definitions, type_named}
@@ -16,10 +16,10 @@ abbrev pub plain_target : Definitions → List ℕ → Option Target
 plain_target defs name = once None (type_named defs name) (λ d. names.instance Empty d d.parameterization [])
 
 module _ (C : Choices) (defs others : Definitions) (j : ℕ) where
-  -- nothing on both sides, or a type and its instance by less than so many steps
+  -- nothing on both sides, or a type and its instance, found within fewer than so many steps, by levels of its own
   abbrev pub LinkedTarget : Option Target → Option Target → Type 0
   LinkedTarget None y = y ≡ None
-  LinkedTarget (Some x) y = (ty uy : ASN1Type) × (x ≡ bare Empty ty) × (y ≡ Some (bare Empty uy)) × ((i : ℕ) × Before C defs j i × ((instance C defs i).of_type false Empty ty ≡ Some uy))
+  LinkedTarget (Some x) y = (ty uy : ASN1Type) × (x ≡ bare Empty ty) × (y ≡ Some (bare Empty uy)) × ((n i : ℕ) × Before C defs j (n + i) × ((instance C defs n i).of_type false Empty ty ≡ Some uy))
 
   -- Of the names that may stay each type definition without parameters is the instance of the one of its name, and so is
   -- each type that an object gives; an open type of a class is open still.

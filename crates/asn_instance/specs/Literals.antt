@@ -3,13 +3,14 @@
 use Rattle.std.specs.Prelude.{ℤ, Bool, true, false, ◌&&◌, ◌||◌, ℕ, is_none, is_some, List, Option, Some, None, if◌then◌else◌}
 use Rattle.std.specs.List.{find}
 use Rattle.asn_kinds.specs.declared.types.Enumeral.{Enumeral}
+use Rattle.asn_tree.specs.declared.constraints.ContentConstraint.{ContentConstraint}
 use Rattle.asn_tree.specs.declared.values.ASN1Value.{ASN1Value}
 use Rattle.asn_tree.specs.declared.values.ASN1Value.TheVariants as value
 use Rattle.asn_meaning.specs.Answers.{Yes, once, Answer, No, Denotation, Denoted}
 use Rattle.asn_meaning.specs.Kinds.{Kind, NullKind, BooleanKind, IntegerKind, BitStringKind, OctetStringKind, EnumeratedKind, FieldKind, ReferenceKind, SelectionKind, kind_of}
 use Rattle.asn_meaning.specs.Meaning.{Meaning}
 use Rattle.asn_meaning.specs.Members.{item_named}
-use Rattle.asn_meaning.specs.Scopes.{Scope, bound_to, Place}
+use Rattle.asn_meaning.specs.Scopes.{Scope, Empty, bound_to, Place}
 use Rattle.asn_meaning.specs.ValueTrees.{ValueTree, NullValue, TruthValue, WholeNumber, ItemNumber, Bits, Octets, same_number}
 use Rattle.asn_meaning.specs.Written.{Written, AllWritten, NullWritten, TruthWritten, NumberWritten, RealWritten, TextWritten, BitsWritten, BitNamesWritten, OctetsWritten, NameWritten, as_written}
 use Rattle.asn_instance.specs.Subjects.{Choices}
@@ -72,6 +73,43 @@ all_or _ v = v
 abbrev pub single_written : Meaning → Scope → ASN1Value → Place → Option ASN1Value
 single_written M scope v p = all_or (M.is_all scope v p) (value_written M scope v p)
 
--- Content constraints and defaults stay, and such names as are told; a table has the set that the bindings give.
+-- ---- defaults and contents
+
+-- a plain name that no binding has, an item's too
+abbrev pub is_unbound_name : Scope → Written → Bool
+is_unbound_name scope (NameWritten None name) = is_none (bound_to scope name)
+is_unbound_name scope _ = false
+
+-- a plain name that is bound
+abbrev pub is_dummy : Scope → Written → Bool
+is_dummy scope (NameWritten None name) = is_some (bound_to scope name)
+is_dummy scope _ = false
+
+-- Under bindings, by the member's head: a literal and a name that is no dummy stay, and a dummy becomes the literal or item
+-- of the tree that it denotes.
+abbrev pub default_under : Meaning → Scope → ASN1Value → Place → Option ASN1Value
+default_under M scope v head =
+    if is_literal (as_written v) || is_unbound_name scope (as_written v) then Some v
+    else (if is_dummy scope (as_written v) then written_by_tree No (M.denotes scope v head) (kind_of head) else None)
+
+-- a member's default, read under the member's type; in the empty scope it stays
+abbrev pub default_written : Meaning → Scope → ASN1Value → Place → Option ASN1Value
+default_written M Empty v p = Some v
+default_written M scope v p = once None (M.head p) (default_under M scope v)
+
+-- what is contained may name dummies at any depth: it stays in the empty scope alone
+abbrev pub content_written : Scope → ContentConstraint → Option ContentConstraint
+content_written Empty c = Some c
+content_written scope c = None
+
+-- Such names stay as are told, and a table has the set that the bindings give.
 abbrev pub literals : (Option (List ℕ) → List ℕ → Bool) → Choices
-literals keeps = record { keeps = keeps; value = single_written; end = value_written; default = λ M scope v p. Some v; content = λ M scope c. Some c; table = λ M scope x. Some (table_bound scope x) }
+literals keeps =
+    record {
+      keeps = keeps;
+      value = single_written;
+      end = value_written;
+      default = default_written;
+      content = λ M scope c. content_written scope c;
+      table = λ M scope x. Some (table_bound scope x);
+    }

@@ -28,14 +28,15 @@ abbrev pub named_by : (List ℕ → List SetMember) → List ObjectIdentifierArc
 named_by members (a ∷ []) = once [] a.name members
 named_by members _ = []
 
--- the members of a set argument; a braced single name was read as an object identifier
+-- a braced single name was read as an object identifier
+abbrev pub value_members : (List ℕ → List SetMember) → Written → List SetMember
+value_members members (ArcsWritten arcs) = named_by members arcs
+value_members members _ = []
+
+-- the members of a set argument
 abbrev pub argument_members : (List ℕ → List SetMember) → ParameterLayer → List SetMember
 argument_members members (Parameter-F.ObjectSetParameter set) = opened members set.values
-argument_members members (Parameter-F.ValueParameter v) = value_members (as_written v)
-  where
-    value_members : Written → List SetMember
-    value_members (ArcsWritten arcs) = named_by members arcs
-    value_members _ = []
+argument_members members (Parameter-F.ValueParameter v) = value_members members (as_written v)
 argument_members members _ = []
 
 -- what a reference stands for: the members of a dummy's argument, in the argument's scope; another name stays

@@ -1,6 +1,6 @@
 //! Laws of instances, each the contract of a function without a body.
 
-ghost use Rattle.asn_instance.specs.Laws.{InstanceKept, InstanceKeptBack, LinkedTypesMeanTheSame, LiteralsKept, Substitution};
+ghost use Rattle.asn_instance.specs.Laws.{FewerNames, InstanceKept, InstanceKeptBack, InstancesArePlain, LinkedTypesMeanTheSame, LiteralsKept, LiteralsPlain, LiteralsSteady, MoreLevels, Substitution};
 
 /// What Judge says of a type in its scope it says of the instance in the empty scope.
 pub fn instance_kept()
@@ -25,4 +25,29 @@ pub fn linked_types_mean_the_same()
 /// Literals mean what the names do that they take the place of.
 pub fn literals_kept()
     ensures { LiteralsKept }
+{}
+
+/// What is found of instances stays as it is within more levels, and where more steps tell more.
+pub fn more_levels()
+    ensures { MoreLevels }
+{}
+
+/// Literals that take the place of names stay as they are where more steps tell more.
+pub fn literals_steady()
+    ensures { LiteralsSteady }
+{}
+
+/// Instances are in plain form where values are written plainly.
+pub fn instances_are_plain()
+    ensures { InstancesArePlain }
+{}
+
+/// Literals and the names of items are written plainly.
+pub fn literals_plain()
+    ensures { LiteralsPlain }
+{}
+
+/// Where fewer names may stay, the same instance is found if each name that stays in it may.
+pub fn fewer_names()
+    ensures { FewerNames }
 {}

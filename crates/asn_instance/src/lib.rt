@@ -6,5 +6,7 @@
 mod laws;
 
 pub use laws::{
-    instance_kept, instance_kept_back, linked_types_mean_the_same, literals_kept, substitution,
+    fewer_names, instance_kept, instance_kept_back, instances_are_plain,
+    linked_types_mean_the_same, literals_kept, literals_plain, literals_steady, more_levels,
+    substitution,
 };
