@@ -18,9 +18,9 @@ HEAD, TAIL = "M DEFINITIONS ::= BEGIN\n", "END\n"
 NOTHING = "Nothing ::= NULL\nnothing NULL ::= NULL\n"
 
 
-def names(number):
+def names(number, behind=""):
     """Types that each are the next one's name, and a number for the last."""
-    chain = "".join(f"T{i} ::= T{i + 1}\n" for i in range(number))
+    chain = "".join(f"T{i} ::= T{i + 1}{behind}\n" for i in range(number))
     return f"{chain}T{number} ::= INTEGER\nv INTEGER ::= 5\n"
 
 
@@ -31,9 +31,8 @@ def circle(number):
 
 
 def ranges(number):
-    """Types that each are the next one's name with a range."""
-    chain = "".join(f"T{i} ::= T{i + 1} (0..9)\n" for i in range(number))
-    return f"{chain}T{number} ::= INTEGER\nv INTEGER ::= 5\n"
+    """The same with a range behind each name."""
+    return names(number, " (0..9)")
 
 
 def values(number):
