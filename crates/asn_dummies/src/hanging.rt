@@ -12,9 +12,8 @@ ghost use Rattle.asn_needs.specs.Dummies.{hangs, is_free_dummy, names_free_at};
 ghost use Rattle.std.specs.Option.{option_copied};
 ghost use Rattle.std.specs.Prelude.{◌≡◌, ◌+◌, ℕ, suc, IfOk};
 
-use crate::circles::is_lost;
 use crate::scopes::is_free_dummy;
-use asn_heads::{Kind, Lead, Place, Reference, Scope, TypeForm, kind_of, lead_of};
+use asn_heads::{Kind, Lead, Place, Reference, Scope, TypeForm, is_lost, kind_of, lead_of};
 use asn_index::Names;
 use asn_memory::{Mem, OutOfMemory, Text};
 use std::alloc::Global;

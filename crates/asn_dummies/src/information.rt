@@ -9,9 +9,10 @@ ghost use Rattle.asn_needs.specs.Dummies.{governs_objects, is_class_at, is_class
 ghost use Rattle.std.specs.Option.{option_copied};
 ghost use Rattle.std.specs.Prelude.{◌≡◌, Some};
 
-use crate::names::{name_of_value, plain_name_in};
-use crate::scopes::is_dummy;
-use asn_heads::{Argument, Kind, Place, Scope, Written, as_written, kind_of, kind_of_tree};
+use crate::names::name_of_value;
+use asn_heads::{
+    Argument, Kind, Place, Scope, Written, as_written, kind_of, kind_of_tree, plain_name_in,
+};
 use asn_index::Names;
 use asn_memory::Text;
 use asn_tree::{ASN1Information, Parameter, ParameterGovernor};
@@ -47,7 +48,7 @@ pub fn is_object_or_class(names: &Names<'_>, name: &str) -> bool
 fn unless_bound<'a>(scope: &Scope<'_>, name: &'a Text) -> Option<&'a Text>
     ensures { option_copied result ≡ free_name (shown scope.now) (Some name.now) }
 {
-    if is_dummy(scope, name.as_str()) {
+    if scope.has_dummy(name.as_str()) {
         None
     } else {
         Some(name)
@@ -100,7 +101,7 @@ fn names_object(names: &Names<'_>, scope: &Scope<'_>, written: Written<'_>) -> b
     match name_of_value(written) {
         None => false,
         Some(name) => {
-            if is_dummy(scope, name.as_str()) {
+            if scope.has_dummy(name.as_str()) {
                 false
             } else {
                 is_object(names, name.as_str())

@@ -8,7 +8,6 @@
 //! copies none. Those who compute the places of a definition call it.
 #![tactic(auto)]
 
-mod circles;
 mod hanging;
 mod information;
 mod names;
@@ -22,5 +21,5 @@ pub use information::{
 };
 pub use names::{argument_name, handed_on, name_of_value};
 pub use places::{Wanted, is_type_argument, misplaced, serves, unserved};
-pub use scopes::{class_in_scope, is_dummy, is_free_dummy};
+pub use scopes::{class_in_scope, is_free_dummy};
 pub use sets::{SetForm, set_argument};

@@ -4,7 +4,6 @@ ghost use Rattle.asn_dummies.specs.inner.Handing.{dummy_of};
 ghost use Rattle.asn_heads.specs.Kinds.{shown_kind, shown_reference};
 ghost use Rattle.asn_heads.specs.Scopes.{shown_argument, shown_bound};
 ghost use Rattle.asn_heads.specs.Written.{shown_written};
-ghost use Rattle.asn_heads.specs.inner.Circles.{name_in, plain_name_in};
 ghost use Rattle.asn_needs.specs.Dummies.{argument_name, bare_name_in, handed_on, name_of_type, name_of_value};
 ghost use Rattle.asn_tree.specs.declared.constraints.Parameter.{out-Parameter};
 ghost use Rattle.std.specs.Option.{option_copied, option_map};
@@ -55,44 +54,6 @@ fn bare_name<'a>(reference: Reference<'a>) -> Option<&'a Text>
             },
             [_, ..] => None,
         },
-    }
-}
-
-/// The name of a reference with nothing before it.
-fn name_in<'a>(reference: Reference<'a>) -> Option<&'a Text>
-    ensures { option_copied result ≡ name_in (shown_reference reference.entry) }
-{
-    match reference {
-        Reference::Named(name) => Some(name),
-        Reference::Written(reference) => match &reference.parent {
-            None => Some(&reference.identifier),
-            Some(_) => None,
-        },
-    }
-}
-
-/// The name that a type of this kind is, with nothing before it.
-pub(crate) fn plain_name_in<'a>(kind: Kind<'a>) -> Option<&'a Text>
-    ensures { option_copied result ≡ plain_name_in (shown_kind kind.entry) }
-{
-    match kind {
-        Kind::Reference(reference) => name_in(reference),
-        Kind::Null => None,
-        Kind::Boolean => None,
-        Kind::Integer(_) => None,
-        Kind::Real => None,
-        Kind::BitString(_) => None,
-        Kind::OctetString => None,
-        Kind::CharacterString(_) => None,
-        Kind::Time => None,
-        Kind::Enumerated(_) => None,
-        Kind::ObjectIdentifier => None,
-        Kind::Opaque => None,
-        Kind::Struct(_) => None,
-        Kind::List(_) => None,
-        Kind::Choice(_) => None,
-        Kind::Field(_) => None,
-        Kind::Selection(_) => None,
     }
 }
 

@@ -2,7 +2,7 @@
 
 ghost use Rattle.asn_heads.specs.Scopes.{shown};
 ghost use Rattle.asn_index.specs.Classes.{shown_class};
-ghost use Rattle.asn_needs.specs.Dummies.{class_in_scope, is_dummy, is_free_dummy};
+ghost use Rattle.asn_needs.specs.Dummies.{class_in_scope, is_free_dummy};
 ghost use Rattle.std.specs.Option.{option_map};
 ghost use Rattle.std.specs.Prelude.{◌≡◌};
 
@@ -23,21 +23,11 @@ pub fn is_free_dummy(scope: &Scope<'_>, name: &str) -> bool
     }
 }
 
-/// Whether the name is a dummy of the scope.
-pub fn is_dummy(scope: &Scope<'_>, name: &str) -> bool
-    ensures { result ≡ is_dummy (shown scope.now) name.now }
-{
-    match scope.bound_to(name) {
-        None => false,
-        Some(_) => true,
-    }
-}
-
 /// The class that a name stands for in a scope. None: a dummy is no class, also where one of its name is defined (X.683 8.4).
 pub fn class_in_scope<'a>(names: &Names<'a>, scope: &Scope<'_>, name: &str) -> Option<Class<'a>>
     ensures { option_map shown_class result ≡ class_in_scope names.now.definitions.now (shown scope.now) name.now }
 {
-    if is_dummy(scope, name) {
+    if scope.has_dummy(name) {
         None
     } else {
         names.class_named(name)

@@ -9,7 +9,7 @@ use Rattle.asn_tree.specs.declared.constraints.Parameter.{Parameter}
 use Rattle.asn_tree.specs.declared.definitions.Parameterization.{Parameterization}
 use Rattle.asn_tree.specs.declared.definitions.ParameterizationArgument.{ParameterizationArgument}
 use Rattle.asn_tree.specs.declared.definitions.ToplevelTypeDefinition.{ToplevelTypeDefinition}
-use Rattle.asn_heads.specs.inner.Circles.{arrives, has_dummy, is_circular, is_dummy_of, name_behind, next_name, plain_name_in}
+use Rattle.asn_heads.specs.Circles.{arrives, has_dummy, is_circular, is_dummy_of, name_behind, next_name, plain_name_in}
 use Rattle.asn_heads.proofs.Leading.{head_at_more}
 use Rattle.asn_meaning.specs.Answers.{once}
 use Rattle.asn_meaning.specs.Definitions.{Definitions, type_named}

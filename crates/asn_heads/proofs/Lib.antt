@@ -9,5 +9,6 @@ pub mod Due
 pub mod Walking
 pub mod Leading
 pub mod Circling
+pub mod Placing
 pub mod Trailing
 pub mod Passing

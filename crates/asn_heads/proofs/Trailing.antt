@@ -4,7 +4,7 @@ use Rattle.std.proofs.lemmas.List.{append-nil, append_assoc, map-append}
 use Rattle.asn_heads.specs.declared.places.Target.{Target as LentTarget}
 use Rattle.asn_heads.specs.Places.{shown_target}
 use Rattle.asn_heads.specs.Trails.{shown_targets, trail, trail_by}
-use Rattle.asn_heads.specs.inner.Circles.{is_circular}
+use Rattle.asn_heads.specs.Circles.{is_circular}
 use Rattle.asn_heads.proofs.Circling.{lost_headless}
 use Rattle.asn_heads.proofs.Leading.{head_at_more, one_more as next_step}
 use Rattle.asn_meaning.specs.Answers.{once}

@@ -7,5 +7,8 @@ pub mod Classes
 pub mod Values
 pub mod Objects
 pub mod Leads
+pub mod Circles
+pub mod Tokens
+pub mod Following
 pub mod inner
 pub mod Trails

@@ -1,15 +1,14 @@
 //! Names that lead back to themselves, whatever their arguments are: they have no head within any number of steps.
 
-ghost use Rattle.asn_heads.specs.Kinds.{shown_reference, shown_type};
+ghost use Rattle.asn_heads.specs.Kinds.{shown_kind, shown_reference};
 ghost use Rattle.asn_heads.specs.Places.{shown_place};
-ghost use Rattle.asn_heads.specs.inner.Circles.{arrives, has_dummy, is_circular, is_dummy_of, name_behind, name_in, next_name, plain_name_in};
-ghost use Rattle.asn_meaning.specs.Kinds.{kind_of_type};
+ghost use Rattle.asn_heads.specs.Circles.{arrives, has_dummy, is_circular, is_dummy_of, name_behind, name_in, next_name, plain_name_in};
 ghost use Rattle.std.specs.List.{list_any};
 ghost use Rattle.std.specs.Option.{option_copied};
 ghost use Rattle.std.specs.Int.{is_power_of_two};
 ghost use Rattle.std.specs.Prelude.{◌≡◌, ◌&&◌};
 
-use crate::kinds::{Kind, Reference, TypeForm, kind_of};
+use crate::kinds::{Kind, Reference, kind_of, kind_of_tree};
 use crate::places::Place;
 use asn_index::Names;
 use asn_memory::Text;
@@ -28,11 +27,11 @@ fn name_in<'a>(reference: Reference<'a>) -> Option<&'a Text>
     }
 }
 
-/// The name that a type is, with nothing before it.
-fn plain_name_in<'a>(ty: TypeForm<'a>) -> Option<&'a Text>
-    ensures { option_copied result ≡ plain_name_in (kind_of_type (shown_type ty.entry)) }
+/// The name that a type of this kind is, with nothing before it.
+pub fn plain_name_in<'a>(kind: Kind<'a>) -> Option<&'a Text>
+    ensures { option_copied result ≡ plain_name_in (shown_kind kind.entry) }
 {
-    match kind_of(ty) {
+    match kind {
         Kind::Reference(reference) => name_in(reference),
         Kind::Null => None,
         Kind::Boolean => None,
@@ -80,7 +79,7 @@ fn has_dummy(parameters: &Option<Parameterization>, name: &str) -> bool
 fn name_behind<'a>(definition: &'a ToplevelTypeDefinition) -> Option<&'a Text>
     ensures { option_copied result ≡ name_behind definition.now }
 {
-    match plain_name_in(TypeForm::Written(&definition.ty)) {
+    match plain_name_in(kind_of_tree(&definition.ty)) {
         None => None,
         Some(name) => {
             if has_dummy(&definition.parameterization, name.as_str()) {
@@ -128,7 +127,7 @@ fn comes_back<'a>(names: &Names<'a>, name: &'a Text, turns: usize) -> bool
 fn is_circular<'a>(names: &Names<'a>, place: &Place<'a>, turns: usize) -> bool
     ensures { result ≡ is_circular names.now.definitions.now turns (shown_place place.now) }
 {
-    match plain_name_in(place.ty) {
+    match plain_name_in(kind_of(place.ty)) {
         None => false,
         Some(name) => match place.scope.bound_to(name.as_str()) {
             Some(_) => false,
@@ -137,9 +136,9 @@ fn is_circular<'a>(names: &Names<'a>, place: &Place<'a>, turns: usize) -> bool
     }
 }
 
-/// Whether the type at a place is such a name, asked only where the turns that were gone are a power of two. So asking takes no more
-/// turns in all than twice those that were gone.
-pub(crate) fn is_lost<'a>(names: &Names<'a>, place: &Place<'a>, turns: usize) -> bool
+/// Whether the type at a place is a name, none of the place's dummies, that leads on to itself within so many turns. That is asked
+/// only where the turns are a power of two: so a walk that asks at each turn takes no more turns in all than twice those that it went.
+pub fn is_lost<'a>(names: &Names<'a>, place: &Place<'a>, turns: usize) -> bool
     ensures { result ≡ (is_power_of_two turns && is_circular names.now.definitions.now turns (shown_place place.now)) }
 {
     if turns.is_power_of_two() {

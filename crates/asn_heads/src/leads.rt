@@ -60,7 +60,7 @@ fn field_lead<'a>(ty: Option<FieldType<'a>>) -> Lead<'a>
 }
 
 /// The options of a CHOICE; of any other head none.
-fn options_of<'a>(head: TypeForm<'a>) -> &'a [ChoiceOption]
+pub fn options_of<'a>(head: TypeForm<'a>) -> &'a [ChoiceOption]
     ensures { result.now ≡ options_in (kind_of_type (shown_type head.entry)) }
 {
     match kind_of(head) {
@@ -106,7 +106,7 @@ fn selected<'a>(head: Place<'a>, name: &str) -> Option<Target<'a>>
 /// Err: want of memory.
 #[cycle(heading)]
 #[tactic(auto, using(crate::proofs::Leading::selection_of_none, crate::proofs::Leading::selection_of_head))]
-fn selection_target<'a>(
+pub fn selection_target<'a>(
     alloc: Global,
     names: &Names<'a>,
     steps: usize,

@@ -13,6 +13,7 @@
 mod circles;
 mod classes;
 mod following;
+mod forms;
 mod items;
 mod kinds;
 mod leads;
@@ -28,16 +29,23 @@ mod trails;
 mod values;
 mod written;
 
-pub use classes::{FieldType, class_field_type};
+pub use circles::{is_lost, plain_name_in};
+pub use classes::{FieldType, class_field_type, field_type, written_field};
+pub use following::begins;
+pub use forms::{constraints_in, integer_of, named_numbers_in, plain_text};
 pub use items::{item_named, number_named, option_named};
 pub use kinds::{Kind, Reference, TypeForm, kind_of, kind_of_tree};
-pub use leads::{Lead, head, head_named, lead_of};
+pub use leads::{Lead, head, head_named, lead_of, options_of, selection_target};
 pub use lists::{ArgumentLists, argument_lists};
+pub use matching::item_at;
 pub use names::{dummy_target, name_target, reference_target};
-pub use objects::{GivenField, Gives, field_target, given, object_field, object_field_type};
+pub use objects::{
+    GivenField, Gives, as_given, field_target, given, object_field, object_field_type,
+};
 pub use places::{Place, Target};
 pub use scopes::{Argument, Bound, Scope};
 pub use templates::{entered, instance};
+pub use tokens::{Behind, Token, token_of};
 pub use trails::{constraints_at, place_at, trail};
 pub use values::{ValueForm, value_written};
 pub use written::{Written, as_written};

@@ -2,15 +2,11 @@
 use Rattle.std.proofs.Common.{◌≡◌, ℕ, ◌+◌, ◌-◌, ◌<◌, suc, List, Bool, Option, Some, None, refl, ap, ◌∙◌, arith}
 use Rattle.std.specs.Option.{option_map}
 use Rattle.asn_tree.specs.declared.constraints.Constraint.{Constraint}
-use Rattle.asn_tree.specs.declared.types.ASN1Type.{ASN1Type}
-use Rattle.asn_judge.specs.inner.Judging.{type_of_elements}
 use Rattle.asn_meaning.specs.Answers.{Answer, Unknown, answer_of, both, once}
 use Rattle.asn_meaning.specs.Constraints.{all_hold}
 use Rattle.asn_meaning.specs.Definitions.{Definitions}
 use Rattle.asn_meaning.specs.Judge.{accepts_at, head_accepts, meaning, stands_for, step}
-use Rattle.asn_meaning.specs.Kinds.{Kind, NullKind, BooleanKind, IntegerKind, RealKind, BitStringKind, OctetStringKind, CharacterStringKind, TimeKind, EnumeratedKind, ObjectIdentifierKind, OpaqueKind, StructKind, ListKind, ChoiceKind, FieldKind, ReferenceKind, SelectionKind, kind_of}
 use Rattle.asn_meaning.specs.Meaning.{Meaning}
-use Rattle.asn_meaning.specs.Members.{element_in, element_place}
 use Rattle.asn_meaning.specs.Names.{Lead, IsHead, LeadsTo, IsLost, lead}
 use Rattle.asn_meaning.specs.Ranges.{all_constraints, numbers_before}
 use Rattle.asn_meaning.specs.Scopes.{Place, Scope, Target}
@@ -60,33 +56,3 @@ judged_by (Some f) parts t b e = ap answer_of (same b (f t) e)
 pub judged_beyond : (test : Option (ValueTree → Bool)) (parts : Answer) (t : ValueTree) → None ≡ option_map (λ f. f t) test → kind_or_parts test parts t ≡ parts
 judged_beyond None parts t e = refl
 judged_beyond (Some f) parts t e = absurd cc
-
--- ---- the type of elements
-
-abbrev pub placed : Scope → ASN1Type → Option Place
-placed scope ty = Some (record { scope = scope; ty = ty })
-
-elements_by_kind : (scope : Scope) (k : Kind) → element_in scope k ≡ once None (type_of_elements k) (placed scope)
-elements_by_kind scope NullKind = refl
-elements_by_kind scope BooleanKind = refl
-elements_by_kind scope (IntegerKind numbers) = refl
-elements_by_kind scope RealKind = refl
-elements_by_kind scope (BitStringKind bits) = refl
-elements_by_kind scope OctetStringKind = refl
-elements_by_kind scope (CharacterStringKind ty) = refl
-elements_by_kind scope TimeKind = refl
-elements_by_kind scope (EnumeratedKind items) = refl
-elements_by_kind scope ObjectIdentifierKind = refl
-elements_by_kind scope OpaqueKind = refl
-elements_by_kind scope (StructKind x) = refl
-elements_by_kind scope (ListKind ty) = refl
-elements_by_kind scope (ChoiceKind options) = refl
-elements_by_kind scope (FieldKind x) = refl
-elements_by_kind scope (ReferenceKind x) = refl
-elements_by_kind scope (SelectionKind x) = refl
-
-pub no_elements : (h : Place) → type_of_elements (kind_of h) ≡ None → element_place h ≡ None
-no_elements h e = elements_by_kind h.scope (kind_of h) ∙ ap (λ found. once None found (placed h.scope)) e
-
-pub some_elements : (h : Place) (ty : ASN1Type) → type_of_elements (kind_of h) ≡ Some ty → element_place h ≡ Some (record { scope = h.scope; ty = ty })
-some_elements h ty e = elements_by_kind h.scope (kind_of h) ∙ ap (λ found. once None found (placed h.scope)) e

@@ -10,7 +10,6 @@
 
 mod characters;
 mod judging;
-mod parts;
 mod presence;
 mod ranking;
 mod singles;

@@ -4,6 +4,5 @@ pub mod Trying
 pub mod Chaining
 pub mod Elements
 pub mod Narrowing
-pub mod Placing
 pub mod Ranking
 pub mod Passed

@@ -15,10 +15,10 @@ ghost use Rattle.std.specs.Prelude.{◌≡◌, IfOk, ℕ, ◌+◌};
 ghost use Rattle.std.specs.Str.{chars};
 
 use crate::making::{no_number, one_number};
-use crate::parents::{Parent, integer_of, plain_text};
+use crate::parents::Parent;
 use crate::sets::Numbers;
 use asn_denotes::{Denotation, denotes};
-use asn_heads::{Scope, ValueForm};
+use asn_heads::{Scope, ValueForm, integer_of, plain_text};
 use asn_index::Names;
 use asn_memory::{Mem, Text};
 use asn_shapes::{Tree, View};

@@ -1,67 +1,18 @@
-//! What the definitions ask of a type: its constraints, whether any constraint on it counts, its whole numbers, the codes of its characters.
+//! What the definitions ask of a type: whether any constraint on it counts, its whole numbers, the codes of its characters.
 
-ghost use Rattle.asn_heads.specs.Kinds.{shown_reference, shown_type};
+ghost use Rattle.asn_heads.specs.Kinds.{shown_type};
 ghost use Rattle.asn_ranges.specs.Sets.{shown_numbers};
 ghost use Rattle.asn_meaning.specs.Kinds.{kind_of_type};
-ghost use Rattle.asn_meaning.specs.Placed.{listed};
-ghost use Rattle.asn_meaning.specs.Ranges.{basic_plane, codes_at, codes_in, is_free_kind, named_numbers_in, numbers_at_head, restricted};
-ghost use Rattle.asn_notation.specs.Types.{constraints_of};
-ghost use Rattle.std.specs.Option.{option_copied};
+ghost use Rattle.asn_meaning.specs.Ranges.{basic_plane, codes_at, codes_in, is_free_kind, numbers_at_head, restricted};
 ghost use Rattle.std.specs.Prelude.{◌≡◌, IfOk};
 
 use crate::making::{every_number, in_both, no_number, numbers_among, numbers_from, numbers_to};
 use crate::sets::Numbers;
 use asn_calls::characters;
-use asn_heads::{Kind, Reference, TypeForm, kind_of};
+use asn_heads::{Kind, TypeForm, kind_of};
 use asn_memory::{List, Mem};
-use asn_tree::{ASN1Type, CharacterStringType, Constraint, DistinguishedValue};
+use asn_tree::CharacterStringType;
 use std::alloc::Global;
-
-/// The constraints of a type of a tree; none where it has no place for any.
-fn constraints_in_tree<'a>(ty: &'a ASN1Type) -> &'a [Constraint]
-    ensures { result.now ≡ listed (constraints_of ty.now) }
-{
-    match ty {
-        ASN1Type::Null => &[],
-        ASN1Type::Boolean(x) => x.constraints.as_slice(),
-        ASN1Type::Integer(x) => x.constraints.as_slice(),
-        ASN1Type::Real(x) => x.constraints.as_slice(),
-        ASN1Type::BitString(x) => x.constraints.as_slice(),
-        ASN1Type::OctetString(x) => x.constraints.as_slice(),
-        ASN1Type::CharacterString(x) => x.constraints.as_slice(),
-        ASN1Type::Enumerated(x) => x.constraints.as_slice(),
-        ASN1Type::Choice(x) => x.constraints.as_slice(),
-        ASN1Type::Sequence(x) => x.constraints.as_slice(),
-        ASN1Type::SequenceOf(x) => x.constraints.as_slice(),
-        ASN1Type::Set(x) => x.constraints.as_slice(),
-        ASN1Type::SetOf(x) => x.constraints.as_slice(),
-        ASN1Type::Time(x) => x.constraints.as_slice(),
-        ASN1Type::GeneralizedTime(x) => x.constraints.as_slice(),
-        ASN1Type::UTCTime(x) => x.constraints.as_slice(),
-        ASN1Type::ElsewhereDeclaredType(x) => x.constraints.as_slice(),
-        ASN1Type::ChoiceSelectionType(_) => &[],
-        ASN1Type::ObjectIdentifier(x) => x.constraints.as_slice(),
-        ASN1Type::InformationObjectFieldReference(x) => x.constraints.as_slice(),
-        ASN1Type::EmbeddedPdv => &[],
-        ASN1Type::External => &[],
-    }
-}
-
-/// The constraints of a type; none where it has no place for any.
-#[tactic(auto, using(crate::proofs::Placing::text_free, crate::proofs::Placing::identifier_free, crate::proofs::Placing::integer_free))]
-pub fn constraints_in<'a>(ty: TypeForm<'a>) -> &'a [Constraint]
-    ensures { result.now ≡ listed (constraints_of (shown_type ty.entry)) }
-{
-    match ty {
-        TypeForm::Written(ty) => constraints_in_tree(ty),
-        TypeForm::Reference(Reference::Written(x)) => x.constraints.as_slice(),
-        TypeForm::Reference(Reference::Named(_)) => &[],
-        TypeForm::Null => &[],
-        TypeForm::Utf8String => &[],
-        TypeForm::ObjectIdentifier => &[],
-        TypeForm::Integer(_) => &[],
-    }
-}
 
 /// Whether every constraint on a head counts as true: on REAL, NULL, EXTERNAL, EMBEDDED PDV and open types.
 pub fn is_free(ty: TypeForm<'_>) -> bool
@@ -110,31 +61,6 @@ pub fn numbers_at_head(ty: TypeForm<'_>) -> Numbers
         Kind::Choice(_) => no_number(),
         Kind::Reference(_) => no_number(),
         Kind::Selection(_) => no_number(),
-    }
-}
-
-/// The named numbers of an INTEGER, where it has braces.
-pub fn named_numbers_in<'a>(ty: TypeForm<'a>) -> Option<&'a List<DistinguishedValue>>
-    ensures { option_copied result ≡ named_numbers_in (kind_of_type (shown_type ty.entry)) }
-{
-    match kind_of(ty) {
-        Kind::Integer(names) => names,
-        Kind::Null => None,
-        Kind::Boolean => None,
-        Kind::Real => None,
-        Kind::BitString(_) => None,
-        Kind::OctetString => None,
-        Kind::CharacterString(_) => None,
-        Kind::Time => None,
-        Kind::Enumerated(_) => None,
-        Kind::ObjectIdentifier => None,
-        Kind::Opaque => None,
-        Kind::Struct(_) => None,
-        Kind::List(_) => None,
-        Kind::Choice(_) => None,
-        Kind::Field(_) => None,
-        Kind::Reference(_) => None,
-        Kind::Selection(_) => None,
     }
 }
 

@@ -15,14 +15,14 @@ ghost use Rattle.std.specs.Prelude.{◌≡◌, [], IfOk, ℕ, ◌+◌};
 
 use crate::chains::Chain;
 use crate::joining::{ranked, ranks_of, ranks_with};
-use crate::kinds::{constraints_in, is_free, numbers_at_head};
+use crate::kinds::{is_free, numbers_at_head};
 use crate::known::{both_known, copied};
 use crate::making::{every_number, no_number};
 use crate::operands::chain;
 use crate::parents::{Parent, value_place};
 use crate::ranges::{number_of_single, range};
 use crate::sets::Numbers;
-use asn_heads::{Place, Scope, Target, TypeForm, constraints_at, place_at, trail};
+use asn_heads::{Place, Scope, Target, TypeForm, constraints_at, constraints_in, place_at, trail};
 use asn_index::Names;
 use asn_memory::{Mem, OutOfMemory};
 use asn_tree::{ASN1Type, Constraint, ElementOrSetOperation, SubtypeElement};

@@ -24,7 +24,7 @@ mod turns;
 mod wide;
 
 pub use chains::{Chain, Joined};
-pub use kinds::{constraints_in, is_free, numbers_at_head, restricted};
+pub use kinds::{is_free, numbers_at_head, restricted};
 pub use leaving::{narrowed, numbers, numbers_before};
 pub use making::{
     above_least, below_greatest, every_number, in_both, in_either, in_first, no_number,

@@ -1,20 +1,16 @@
 //! What a constraint is put on (X.680 51.1, 51.7).
 
-ghost use Rattle.asn_heads.specs.Kinds.{shown_type};
 ghost use Rattle.asn_heads.specs.Places.{shown_place};
 ghost use Rattle.asn_ranges.specs.Parents.{shown_parent};
 ghost use Rattle.asn_ranges.specs.Sets.{shown_numbers};
-ghost use Rattle.asn_meaning.specs.Everything.{plain_text};
-ghost use Rattle.asn_meaning.specs.Kinds.{kind_of_type};
-ghost use Rattle.asn_meaning.specs.Ranges.{codes_of, integer_named, named_numbers_in, numbers_of, value_place};
-ghost use Rattle.asn_meaning.specs.Scopes.{Empty, bare};
+ghost use Rattle.asn_meaning.specs.Ranges.{codes_of, numbers_of, value_place};
 ghost use Rattle.std.specs.Option.{option_map};
 ghost use Rattle.std.specs.Prelude.{◌≡◌, IfOk};
 
-use crate::kinds::{codes_at, named_numbers_in};
+use crate::kinds::codes_at;
 use crate::known::copied;
 use crate::sets::Numbers;
-use asn_heads::{Place, Target, TypeForm};
+use asn_heads::{Place, plain_text};
 use asn_memory::Mem;
 use std::alloc::Global;
 
@@ -63,29 +59,6 @@ pub fn numbers_of(alloc: Global, parent: Parent<'_, '_, '_>) -> Mem<Option<Numbe
             Ok(Some(codes))
         }
     }
-}
-
-/// A type in the empty scope.
-fn outside<'a>(ty: TypeForm<'a>) -> Place<'a>
-    ensures { shown_place result ≡ (bare Empty (shown_type ty.entry)).place }
-{
-    let Target { place, .. } = Target::outside(ty);
-    place
-}
-
-/// INTEGER with the named numbers of a head.
-pub fn integer_of<'a>(head: TypeForm<'a>) -> Place<'a>
-    ensures { shown_place result ≡ integer_named (named_numbers_in (kind_of_type (shown_type head.entry))) }
-{
-    let names = named_numbers_in(head);
-    outside(TypeForm::Integer(names))
-}
-
-/// A character string type without constraints.
-pub fn plain_text<'a>() -> Place<'a>
-    ensures { shown_place result ≡ plain_text }
-{
-    outside(TypeForm::Utf8String)
 }
 
 /// The type that single values are read under; in FROM every value is a text.

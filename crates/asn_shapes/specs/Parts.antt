@@ -1,7 +1,9 @@
 -- The parts of a tree.
 use Rattle.std.specs.Prelude.{Option, Some, None}
+use Rattle.asn_tree.specs.declared.types.ASN1Type.{ASN1Type}
 use Rattle.asn_shapes.specs.declared.parts.Alternative.{Alternative as LentAlternative}
 use Rattle.asn_shapes.specs.Trees.{Named, shown_tree}
+use Rattle.asn_meaning.specs.Kinds.{Kind, ListKind}
 use Rattle.asn_meaning.specs.ValueTrees.{ValueTree, Struct, Elements, Alternative, Fields, ValueTrees}
 
 -- the fields of a struct
@@ -21,3 +23,8 @@ alternative_in _ = None
 
 abbrev pub shown_alternative : LentAlternative → Named
 shown_alternative a = (a.name.now, shown_tree a.tree.now)
+
+-- the type of the elements of a list
+abbrev pub type_of_elements : Kind → Option ASN1Type
+type_of_elements (ListKind ty) = Some ty
+type_of_elements _ = None

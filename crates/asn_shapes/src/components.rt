@@ -41,7 +41,7 @@ fn joined<'a>(members: List<Member<'a>>, others: List<Member<'a>>) -> Mem<List<M
 }
 
 /// Whether the member of this number stands behind the extension marker (X.680 25.1).
-fn is_addition_at(marker: Option<usize>, number: usize) -> bool
+pub fn is_addition_at(marker: Option<usize>, number: usize) -> bool
     ensures { result ≡ is_addition_at marker number }
 {
     match marker {

@@ -12,17 +12,21 @@
 mod answers;
 mod by_name;
 mod components;
+mod elements;
 mod fitting;
 mod members;
+mod named;
 mod parts;
 mod shapes;
 mod trees;
 
 pub use answers::Answer;
 pub use by_name::{FieldsByName, MembersByName};
-pub use components::{members_of, struct_members};
+pub use components::{is_addition_at, members_of, struct_members};
+pub use elements::element_place;
 pub use fitting::fits;
 pub use members::{Member, member_named};
+pub use named::{member_type, option_type};
 pub use parts::{Alternative, alternative_of, elements_of, fields_of, is_of_kind};
 pub use shapes::{
     are_members, is_bits, is_identifier, is_item, is_null, is_octets, is_opaque, is_real, is_text,

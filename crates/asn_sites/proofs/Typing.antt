@@ -10,14 +10,6 @@ use Rattle.asn_needs.specs.PartsOfTypes.{own_constraints}
 use Rattle.asn_meaning.specs.Accepts.{place}
 use Rattle.asn_needs.specs.PartsOfTypes.{Instance, component_sites, constraint_sites, instance_at, instance_sites, loose_lists, type_sites, type_sites_from}
 use Rattle.asn_needs.specs.Sites.{Seen, Site, TypePlace, beside, AConstraint}
-use Rattle.std.specs.Option.{option_copied}
-use Rattle.asn_tree.specs.declared.types.ASN1Type.TheVariants as type_of_kind
-use Rattle.asn_words.specs.declared.plain.CharacterStringType.TheVariants.{UTF8String}
-use Rattle.asn_heads.specs.declared.kinds.TypeForm.{TypeForm}
-use Rattle.asn_heads.specs.declared.kinds.TypeForm.TheVariants as form
-use Rattle.asn_heads.specs.Kinds.{shown_type}
-use Rattle.asn_meaning.specs.Placed.{listed}
-use Rattle.asn_notation.specs.Types.{constraints_at}
 use Rattle.asn_sites.proofs.Adding.{then_more, then_three}
 
 pub all_constraints : (all some xs : List Site) (s : Site) (p : Option Place) (cs ds : List Constraint) → some ≡ xs ++ constraint_sites s p cs → all ≡ some ++ constraint_sites s p ds →
@@ -46,16 +38,3 @@ type_done S s at ty behind cs k l i xs first second third all ke le ce ie f g h 
 pub type_inside : (S : Seen) (s inner : Site) (at : TypePlace) (ty : ASN1Type) (behind : List Constraint) (xs all : List Site) → inner ≡ record s { way = [] } →
     all ≡ xs ++ type_sites_from S inner at ty behind → all ≡ xs ++ type_sites S s at ty behind
 type_inside S s inner at ty behind xs all e is = is ∙ ap (λ x. xs ++ type_sites_from S x at ty behind) e
-
--- ---- types that no tree holds
-
-pub text_free : (ty : TypeForm) → ty ≡ form.Utf8String → own_constraints (shown_type ty) ≡ []
-text_free ty e = ap (λ t. own_constraints (shown_type t)) e ∙ ap (λ l. listed (constraints_at l)) (type_of_kind.outs-CharacterString (record { constraints = []; ty = UTF8String }))
-
-pub identifier_free : (ty : TypeForm) → ty ≡ form.ObjectIdentifier → own_constraints (shown_type ty) ≡ []
-identifier_free ty e = ap (λ t. own_constraints (shown_type t)) e ∙ ap (λ l. listed (constraints_at l)) (type_of_kind.outs-ObjectIdentifier (record { constraints = [] }))
-
-pub integer_free : (ty : TypeForm) (names : _) → ty ≡ form.Integer names → own_constraints (shown_type ty) ≡ []
-integer_free ty names e =
-    ap (λ t. own_constraints (shown_type t)) e
-    ∙ ap (λ l. listed (constraints_at l)) (type_of_kind.outs-Integer (record { constraints = []; distinguished_values = option_copied names }))

@@ -16,7 +16,7 @@ ghost use Rattle.std.specs.Str.{bytes_eq};
 
 use crate::forms::{Form, TypePlace};
 use crate::loose::{list_in, with_loose_arguments, with_loose_lists};
-use crate::scopes::{filled, is_dummy};
+use crate::scopes::filled;
 use crate::sites::{Site, with_site};
 use crate::surroundings::{Around, nested, scope_in};
 use asn_heads::{Kind, Reference, Scope, TypeForm};
@@ -96,7 +96,7 @@ fn instance_named<'a>(
 ) -> Option<Instance<'a>>
     ensures { option_map shown_instance result ≡ instance_named names.now.definitions.now (shown scope.now) reference.now }
 {
-    if reference.parent.is_some() || is_dummy(scope, reference.identifier.as_str()) {
+    if reference.parent.is_some() || scope.has_dummy(reference.identifier.as_str()) {
         return None;
     }
     match names.type_named(reference.identifier.as_str()) {

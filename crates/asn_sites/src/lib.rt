@@ -23,9 +23,9 @@ pub use forms::{
 };
 pub use instances::{Instance, instance_at, with_dummies};
 pub use loose::{list_in, with_loose_list, with_loose_lists};
-pub use scopes::{filled, is_dummy};
+pub use scopes::filled;
 pub use sites::{Site, with_site};
 pub use surroundings::{
     Around, made_opaque, nested, onward, outermost, scope_in, shared, without_way,
 };
-pub use types::{constraints_behind, constraints_in, with_governor, with_type};
+pub use types::{constraints_behind, with_governor, with_type};

@@ -1,7 +1,7 @@
 //! The scope that an argument list gives.
 
 ghost use Rattle.asn_heads.specs.Scopes.{shown};
-ghost use Rattle.asn_needs.specs.Dummies.{filled, is_dummy};
+ghost use Rattle.asn_needs.specs.Dummies.{filled};
 ghost use Rattle.std.specs.Prelude.{◌≡◌, IfOk};
 
 use asn_heads::Scope;
@@ -9,13 +9,6 @@ use asn_memory::Mem;
 use asn_tree::{Parameter, ParameterizationArgument};
 use std::alloc::Global;
 use std::rc::Rc;
-
-/// Whether the name is a dummy of the scope.
-pub fn is_dummy(scope: &Scope<'_>, name: &str) -> bool
-    ensures { result ≡ is_dummy (shown scope.now) name.now }
-{
-    scope.bound_to(name).is_some()
-}
 
 /// The scope that an argument list on a template gives, which is read in `scope`; a dummy without an argument stands for
 /// none (X.683 8.4, 9.7).

@@ -5,7 +5,6 @@ ghost use Rattle.asn_heads.specs.Places.{shown_place};
 ghost use Rattle.asn_meaning.specs.Placed.{listed};
 ghost use Rattle.asn_needs.specs.PartsOfTypes.{constraint_sites, governor_sites, own_constraints, type_sites, type_sites_from};
 ghost use Rattle.asn_needs.specs.Sites.{seen};
-ghost use Rattle.asn_notation.specs.Types.{constraints_of};
 ghost use Rattle.asn_sites.specs.Forms.{shown_at};
 ghost use Rattle.asn_sites.specs.Sites.{shown_around, shown_sites};
 ghost use Rattle.asn_meaning.specs.Accepts.{place};
@@ -19,58 +18,12 @@ use crate::instances::{instance_at, with_lists};
 use crate::loose::with_loose_lists;
 use crate::sites::Site;
 use crate::surroundings::{Around, scope_in, without_way};
-use asn_heads::{Place, Reference, TypeForm, kind_of};
+use asn_heads::{Place, TypeForm, constraints_in, kind_of};
 use asn_index::Names;
 use asn_memory::{List, Mem};
-use asn_tree::{ASN1Type, Constraint, ParameterGovernor};
+use asn_tree::{Constraint, ParameterGovernor};
 use std::alloc::Global;
 use std::rc::Rc;
-
-/// The constraints of a type of a tree; none where it has no place for any.
-fn constraints_in_tree<'a>(ty: &'a ASN1Type) -> &'a [Constraint]
-    ensures { result.now ≡ listed (constraints_of ty.now) }
-{
-    match ty {
-        ASN1Type::Null => &[],
-        ASN1Type::Boolean(x) => x.constraints.as_slice(),
-        ASN1Type::Integer(x) => x.constraints.as_slice(),
-        ASN1Type::Real(x) => x.constraints.as_slice(),
-        ASN1Type::BitString(x) => x.constraints.as_slice(),
-        ASN1Type::OctetString(x) => x.constraints.as_slice(),
-        ASN1Type::CharacterString(x) => x.constraints.as_slice(),
-        ASN1Type::Enumerated(x) => x.constraints.as_slice(),
-        ASN1Type::Choice(x) => x.constraints.as_slice(),
-        ASN1Type::Sequence(x) => x.constraints.as_slice(),
-        ASN1Type::SequenceOf(x) => x.constraints.as_slice(),
-        ASN1Type::Set(x) => x.constraints.as_slice(),
-        ASN1Type::SetOf(x) => x.constraints.as_slice(),
-        ASN1Type::Time(x) => x.constraints.as_slice(),
-        ASN1Type::GeneralizedTime(x) => x.constraints.as_slice(),
-        ASN1Type::UTCTime(x) => x.constraints.as_slice(),
-        ASN1Type::ElsewhereDeclaredType(x) => x.constraints.as_slice(),
-        ASN1Type::ChoiceSelectionType(_) => &[],
-        ASN1Type::ObjectIdentifier(x) => x.constraints.as_slice(),
-        ASN1Type::InformationObjectFieldReference(x) => x.constraints.as_slice(),
-        ASN1Type::EmbeddedPdv => &[],
-        ASN1Type::External => &[],
-    }
-}
-
-/// The constraints of a type; none where it has no place for any.
-#[tactic(auto, using(crate::proofs::Typing::text_free, crate::proofs::Typing::identifier_free, crate::proofs::Typing::integer_free))]
-pub fn constraints_in<'a>(ty: TypeForm<'a>) -> &'a [Constraint]
-    ensures { result.now ≡ own_constraints (shown_type ty.entry) }
-{
-    match ty {
-        TypeForm::Written(ty) => constraints_in_tree(ty),
-        TypeForm::Reference(Reference::Written(x)) => x.constraints.as_slice(),
-        TypeForm::Reference(Reference::Named(_)) => &[],
-        TypeForm::Null => &[],
-        TypeForm::Utf8String => &[],
-        TypeForm::ObjectIdentifier => &[],
-        TypeForm::Integer(_) => &[],
-    }
-}
 
 /// The constraints that come along behind a type; None stands for none.
 pub fn constraints_behind<'a>(constraints: Option<&'a List<Constraint>>) -> &'a [Constraint]

@@ -1,6 +1,6 @@
 -- Names that a scope does not bind.
 use Rattle.std.specs.Prelude.{ℕ, List, Option, Some, None, if◌then◌else◌}
-use Rattle.asn_heads.specs.inner.Circles.{plain_name_in}
+use Rattle.asn_heads.specs.Circles.{plain_name_in}
 use Rattle.asn_meaning.specs.Answers.{once}
 use Rattle.asn_meaning.specs.Kinds.{Kind}
 use Rattle.asn_meaning.specs.Scopes.{Scope}

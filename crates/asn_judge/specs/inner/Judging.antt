@@ -1,19 +1,14 @@
 -- What is asked of the parts of trees, and of the elements of sets.
-use Rattle.std.specs.Prelude.{ℕ, List, [], ◌∷◌, Option, Some, None}
+use Rattle.std.specs.Prelude.{ℕ, List, [], ◌∷◌}
 use Rattle.asn_tree.specs.declared.constraints.ElementOrSetOperation.{ElementOrSetOperation}
 use Rattle.asn_tree.specs.declared.constraints.SubtypeElement.{SubtypeElement}
 use Rattle.asn_tree.specs.declared.types.ASN1Type.{ASN1Type}
 use Rattle.asn_meaning.specs.Answers.{Answer, each}
 use Rattle.asn_meaning.specs.Constraints.{set_holds}
-use Rattle.asn_meaning.specs.Kinds.{Kind, ListKind}
 use Rattle.asn_meaning.specs.Meaning.{Meaning, Parent, CharactersOf}
 use Rattle.asn_meaning.specs.Numbers.{Numbers}
 use Rattle.asn_meaning.specs.Scopes.{Scope}
 use Rattle.asn_meaning.specs.ValueTrees.{ValueTree, Characters}
-
-abbrev pub type_of_elements : Kind → Option ASN1Type
-type_of_elements (ListKind ty) = Some ty
-type_of_elements _ = None
 
 -- whether a type that is written in a scope accepts a tree
 abbrev pub type_accepts : Meaning → Scope → ASN1Type → ValueTree → Answer

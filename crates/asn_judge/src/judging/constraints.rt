@@ -19,10 +19,10 @@ ghost use Rattle.std.specs.Prelude.{◌≡◌, IfOk, ℕ, ◌+◌};
 
 use crate::judging::elements::holds;
 use crate::ranking::Ranking;
-use asn_heads::{Place, Scope, head};
+use asn_heads::{Place, Scope, constraints_in, head};
 use asn_index::Names;
 use asn_memory::Mem;
-use asn_ranges::{Chain, Numbers, Parent, chain, constraints_in, is_free, narrowed, numbers};
+use asn_ranges::{Chain, Numbers, Parent, chain, is_free, narrowed, numbers};
 use asn_shapes::{Answer, Tree};
 use asn_tree::{Constraint, ElementOrSetOperation};
 use std::alloc::Global;

@@ -18,7 +18,6 @@ use crate::characters::{character_tree, characters_of, text_of};
 use crate::judging::accepting::type_accepts;
 use crate::judging::components::inner_holds;
 use crate::judging::constraints::{part_holds, set_holds};
-use crate::parts::element_place;
 use crate::singles::{range_holds, single_holds};
 use crate::sizes::{size_numbers, size_place, size_tree};
 use crate::trees::counted;
@@ -26,7 +25,7 @@ use asn_heads::{Place, Scope};
 use asn_index::Names;
 use asn_memory::{Mem, OutOfMemory};
 use asn_ranges::{Numbers, Parent, codes_of};
-use asn_shapes::{Answer, Tree, elements_of};
+use asn_shapes::{Answer, Tree, element_place, elements_of};
 use asn_tree::{Constraint, ElementOrSetOperation, SubtypeElement};
 use std::alloc::Global;
 

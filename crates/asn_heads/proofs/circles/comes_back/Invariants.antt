@@ -1,5 +1,5 @@
 use Rattle.std.proofs.Common.{◌≡◌}
-use Rattle.asn_heads.specs.inner.Circles.{arrives}
+use Rattle.asn_heads.specs.Circles.{arrives}
 use Rattle.asn_heads.proofs.circles.comes_back.Given as goal
 
 abbrev pub invariant-loop-left : goal.invariant-loop-left

@@ -1,6 +1,6 @@
 use Rattle.std.proofs.Common.{◌≡◌, drop}
 use Rattle.std.specs.List.{list_any}
-use Rattle.asn_heads.specs.inner.Circles.{is_dummy_of}
+use Rattle.asn_heads.specs.Circles.{is_dummy_of}
 use Rattle.asn_heads.proofs.circles.is_among.Given as goal
 
 abbrev pub invariant-loop-dummy : goal.invariant-loop-dummy

@@ -2,7 +2,7 @@
 
 ghost use Rattle.asn_heads.specs.Kinds.{shown_kind};
 ghost use Rattle.asn_heads.specs.Places.{shown_place};
-ghost use Rattle.asn_judge.specs.inner.Judging.{type_of_elements};
+ghost use Rattle.asn_shapes.specs.Parts.{type_of_elements};
 ghost use Rattle.asn_meaning.specs.Members.{element_place};
 ghost use Rattle.std.specs.Option.{option_copied, option_map};
 ghost use Rattle.std.specs.Prelude.{◌≡◌, IfOk};
@@ -40,7 +40,7 @@ fn element_type<'a>(kind: Kind<'a>) -> Option<&'a ASN1Type>
 /// The type of the elements of a head; None where it is no SEQUENCE OF or SET OF.
 ///
 /// Err: want of memory.
-#[tactic(auto, using(crate::proofs::Accepting::no_elements, crate::proofs::Accepting::some_elements))]
+#[tactic(auto, using(crate::proofs::Listing::no_elements, crate::proofs::Listing::some_elements))]
 pub fn element_place<'a>(alloc: Global, head: &Place<'a>) -> Mem<Option<Place<'a>>>
     ensures { IfOk result (λ place. option_map shown_place place ≡ element_place (shown_place head.now)) }
 {
