@@ -23,6 +23,7 @@ use Rattle.asn_instance.specs.Heads.{Alike, Before, ValuesKept, constraints_made
 use Rattle.asn_instance.specs.Instance.{instance}
 use Rattle.asn_instance.specs.Subjects.{Choices, OnCharacters, OnValues, Subject}
 use Rattle.asn_instance.specs.Ways.{Back, Forth, Known, Refined, Way}
+use Rattle.asn_instance.proofs.Falling.{FreeHeads}
 use Rattle.asn_instance.proofs.Forms.{Beside, own}
 use Rattle.asn_instance.proofs.Pairs.{Paired}
 
@@ -54,8 +55,9 @@ module _ (C : Choices) (defs : Definitions) (j : ℕ) where
   abbrev pub Instanced : Bool → Scope → ASN1Type → ASN1Type → Type 0
   Instanced down scope ty uy = (floor i : ℕ) × Before C defs j (floor + i) × ((instance C defs floor i).of_type down scope ty ≡ Some uy)
 
+  -- constraints, and what is made of them: nothing where they fall away
   abbrev pub Constrained : Scope → Place → List Constraint → List Constraint → Type 0
-  Constrained scope p cs ds = (floor i : ℕ) × Before C defs j (floor + i) × (constraints_made C defs floor i scope p cs ≡ Some ds)
+  Constrained scope p cs ds = ((floor i : ℕ) × Before C defs j (floor + i) × (constraints_made C defs floor i scope p cs ≡ Some ds)) ⊎ ((ds ≡ []) × FreeHeads defs p)
 
   abbrev pub MadeElement : Scope → Subject → SubtypeElement → SubtypeElement → Type 0
   MadeElement scope s e f = (floor i : ℕ) × Before C defs j (floor + i) × ((instance C defs floor i).of_element scope s e ≡ Some f)
@@ -89,6 +91,7 @@ module _ (C : Choices) (defs others : Definitions) (j : ℕ) where
   -- The types within so many steps are kept: `M` knows of the types in their scopes, `L` of the instances.
   pub record Below (way : Way) (M L : Meaning) : Type 0 where
     pub more : others ≡ defs → MoreBy way M L
+    pub known : (n : ℕ) × (M ≡ meaning defs n)
     pub same_head : (i : ℕ) → Before C defs j i → (p g h : Place) → (meaning defs i).head p ≡ Some g → M.head p ≡ Some h → g ≡ h
     pub same_members : (i : ℕ) → Before C defs j i → (scope : Scope) (x : StructLayer) (ms ns : List Member) → (meaning defs i).members scope x ≡ Some ms → M.members scope x ≡ Some ns → ms ≡ ns
     pub led : (i : ℕ) → Before C defs j i → (p : Place) (x : Target) → lead defs (meaning defs i) p ≡ LeadsTo x → Led way (lead defs M p) x

@@ -1,15 +1,12 @@
 -- A choice by which fewer names may stay finds the same where all names that stay may.
 use Rattle.std.proofs.Common.{Bool, List, None, Option, Some, [], ap, false, refl, sym, true, ℕ, ◌&&◌, ◌++◌, ◌∙◌, ◌∷◌, ◌≡◌}
 use Rattle.std.specs.List.{list_all}
-use Rattle.std.specs.Prelude.{is_some}
 use Rattle.asn_headers.specs.declared.headers.AsnTag.{AsnTag}
 use Rattle.asn_tree.specs.declared.constraints.Constraint.{Constraint, Constraint-F, out-Constraint, out-roll-Constraint, roll-Constraint}
 use Rattle.asn_tree.specs.declared.constraints.ElementOrSetOperation.{ElementOrSetOperation, ElementOrSetOperation-F}
 use Rattle.asn_tree.specs.declared.constraints.SetOperation.{out-SetOperation, out-roll-SetOperation, roll-SetOperation}
 use Rattle.asn_tree.specs.declared.constraints.SubtypeElement.{SubtypeElement, SubtypeElement-F}
 use Rattle.asn_tree.specs.declared.types.ASN1Type.{ASN1Type}
-use Rattle.asn_notation.specs.Types.{constraints_of}
-use Rattle.asn_meaning.specs.Accepts.{place}
 use Rattle.asn_meaning.specs.Answers.{once}
 use Rattle.asn_meaning.specs.Definitions.{Definitions}
 use Rattle.asn_meaning.specs.Kinds.{kind_of}
@@ -17,24 +14,13 @@ use Rattle.asn_meaning.specs.Layers.{ConstraintLayer, ElementLayer, InnerLayer, 
 use Rattle.asn_meaning.specs.Meaning.{Meaning}
 use Rattle.asn_meaning.specs.Members.{element_place}
 use Rattle.asn_meaning.specs.Ranges.{integer_named}
-use Rattle.asn_meaning.specs.Scopes.{Place, Scope, Target}
+use Rattle.asn_meaning.specs.Scopes.{Place, Scope}
 use Rattle.asn_instance.specs.Fewer.{AreFewer, with_names}
 use Rattle.asn_instance.specs.Instance.{Instances, component_instance, constraint_instance, element_instance, inner_instance, listed_instance, of_constraints, operation_instance, part_named, set_instance, stays_at}
 use Rattle.asn_instance.specs.Staying.{Names, constraint_stays, constraints_stay, staying}
 use Rattle.asn_instance.specs.Subjects.{Choices, OnCharacters, OnValues, Subject, traversed}
-use Rattle.asn_instance.proofs.Holding.{Holds, once_holds, result_holds, then_holds}
+use Rattle.asn_instance.proofs.Holding.{Holds, once_holds, result_holds, result_is, then_holds}
 use Rattle.asn_instance.proofs.StayingNames.{AllOk, ElementLayerOk, ElementOk, ListedOk, SetLayerOk, SetOk, TypeOk, all_first, all_second, firsts, seconds}
-
--- ---- results
-
--- what is told of a result by what it is
-pub result_is : {A : Type 0} (a : Option A) (Q : A → Type 0) → ((x : A) → a ≡ Some x → Q x) → Holds a Q
-result_is None Q h = tt
-result_is (Some x) Q h = h x refl
-
-pub some_is : {A : Type 0} (a : Option A) → is_some a ≡ true → (x : A) × (a ≡ Some x)
-some_is None e = absurd cc
-some_is (Some x) e = (x, refl)
 
 -- fewer names: what may not stay does not, and what is told to stay does
 fewer_false : (f c r : Bool) → (f ≡ true → c ≡ true) → (c && r) ≡ false → (f && r) ≡ false
@@ -60,14 +46,7 @@ pub record FoundFewer (fewer : Names) (I J : Instances) : Type 0 where
   pub of_element : (scope : Scope) (s : Subject) (x y : SubtypeElement) → I.of_element scope s x ≡ Some y → ElementOk fewer y → J.of_element scope s x ≡ Some y
   pub of_tag : (scope : Scope) (ty uy : ASN1Type) (tag : Option AsnTag) → I.of_type false scope ty ≡ Some uy → TypeOk fewer uy → I.of_tag scope ty ≡ Some tag → J.of_tag scope ty ≡ Some tag
 
--- the premise on constraints that fall away, at one level
-abbrev pub FallenAt : Choices → Names → Definitions → Meaning → Instances → Instances → Type 0
-FallenAt C fewer defs M I J =
-    (down : Bool) (scope : Scope) (ty : ASN1Type) (beside : List Constraint) (x : Target) (uy : ASN1Type) → I.of_type down x.place.scope x.place.ty ≡ Some uy → constraints_of uy ≡ None →
-    is_some (of_constraints C defs M I x.place.scope x.place x.constraints) ≡ true → is_some (of_constraints C defs M I scope (place scope ty) beside) ≡ true →
-    (is_some (of_constraints (with_names C fewer) defs M J x.place.scope x.place x.constraints) ≡ true) × (is_some (of_constraints (with_names C fewer) defs M J scope (place scope ty) beside) ≡ true)
-
-module _ (C : Choices) (fewer : Names) (defs : Definitions) (less : AreFewer fewer C) (M : Meaning) (I J : Instances) (f : FoundFewer fewer I J) (fallen : FallenAt C fewer defs M I J) where
+module _ (C : Choices) (fewer : Names) (defs : Definitions) (less : AreFewer fewer C) (M : Meaning) (I J : Instances) (f : FoundFewer fewer I J) where
   abbrev D : Choices
   D = with_names C fewer
 

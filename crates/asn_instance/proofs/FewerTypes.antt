@@ -1,7 +1,7 @@
 -- Types of instances are found the same by fewer names.
-use Rattle.std.proofs.Common.{Bool, List, None, Option, Some, [], ap, arith, false, inl, inr, refl, subst, suc, sym, true, zero, ℕ, ◌&&◌, ◌++◌, ◌+◌, ◌∙◌, ◌∷◌, ◌≡◌, ◌⊎◌}
+use Rattle.std.proofs.Common.{Bool, List, None, Option, Some, [], ap, false, inl, inr, refl, subst, suc, sym, true, zero, ℕ, ◌&&◌, ◌++◌, ◌+◌, ◌∙◌, ◌∷◌, ◌≡◌, ◌⊎◌}
 use Rattle.std.specs.List.{list_all}
-use Rattle.std.specs.Prelude.{if◌then◌else◌, is_some}
+use Rattle.std.specs.Prelude.{if◌then◌else◌}
 use Rattle.asn_headers.specs.declared.headers.AsnTag.{AsnTag}
 use Rattle.asn_tree.specs.declared.constraints.Constraint.{Constraint}
 use Rattle.asn_tree.specs.declared.constraints.ElementOrSetOperation.{ElementOrSetOperation, out-ElementOrSetOperation, out-roll-ElementOrSetOperation, roll-ElementOrSetOperation}
@@ -25,14 +25,14 @@ use Rattle.asn_meaning.specs.Names.{FieldType, Fixed, Open, class_field_type, re
 use Rattle.asn_meaning.specs.Scopes.{Empty, Place, Scope, Target, bare}
 use Rattle.asn_meaning.specs.ValueTrees.{same_truth}
 use Rattle.asn_calls.specs.Types.{with_constraints_at}
-use Rattle.asn_instance.specs.Fewer.{AreFewer, FallsAlike, with_names}
-use Rattle.asn_instance.specs.Instance.{Instances, constrained, element_instance, field_instance, first_tag, followed_by, instance, instance_at, list_instance, member_instance, no_instance, of_constraints, of_members, of_options, option_instance, own_tag, placed_tag, replaced, risen, set_instance, stays, struct_instance, tag_instance, type_instance}
+use Rattle.asn_instance.specs.Fewer.{AreFewer, with_names}
+use Rattle.asn_instance.specs.Instance.{Instances, constrained, element_instance, extended, field_instance, first_tag, followed_by, has_no_place, instance, instance_at, list_instance, member_instance, no_instance, of_constraints, of_members, of_options, option_instance, own_tag, placed_tag, replaced, risen, set_instance, stays, struct_instance, tag_instance, type_instance}
 use Rattle.asn_instance.specs.Staying.{Names, NamesStay, constraints_stay, kind_stays, member_stays, option_stays, staying}
 use Rattle.asn_instance.specs.Subjects.{Choices, Subject, perhaps}
 use Rattle.asn_instance.proofs.Forms.{own}
-use Rattle.asn_instance.proofs.Holding.{Holds, once_holds, result_holds, some_same, then_holds, weaker}
-use Rattle.asn_instance.proofs.StayingNames.{AllOk, ElementLayerOk, ElementOk, LayerOk, MembersOk, OptionsOk, SetLayerOk, SetOk, TypeOk, all_first, all_second, element_layer, fallen_same, firsts, followed_names, layer_all, layer_kind, layer_type, own_none, placed_or, seconds, set_layer, type_layer}
-use Rattle.asn_instance.proofs.FewerNames.{FallenAt, FoundFewer, constraints_again, element_again, result_is, set_again, some_is, stays_less, stays_more}
+use Rattle.asn_instance.proofs.Holding.{Holds, once_holds, result_holds, result_is, some_same, then_holds, weaker}
+use Rattle.asn_instance.proofs.StayingNames.{AllOk, ElementLayerOk, ElementOk, LayerOk, MembersOk, OptionsOk, SetLayerOk, SetOk, TypeOk, all_first, all_second, element_layer, firsts, followed_names, layer_all, layer_kind, layer_type, own_none, placed_or, seconds, set_layer, type_layer}
+use Rattle.asn_instance.proofs.FewerNames.{FoundFewer, constraints_again, element_again, set_again, stays_less, stays_more}
 
 -- ---- what is rolled up
 
@@ -73,12 +73,12 @@ module _ (fewer : Names) where
   list_constraints : (y : ListLayer) → ListOk (out-SequenceOrSetOf (roll-SequenceOrSetOf y)) → AllOk fewer y.constraints
   list_constraints y ok = seconds (λ m. (staying fewer m).of_type y.element_type) (λ m. constraints_stay fewer (staying fewer m) y.constraints) (list_unrolled y ok)
 
-module _ (C : Choices) (fewer : Names) (defs : Definitions) (less : AreFewer fewer C) (M : Meaning) (I J : Instances) (f : FoundFewer fewer I J) (fallen : FallenAt C fewer defs M I J) where
+module _ (C : Choices) (fewer : Names) (defs : Definitions) (less : AreFewer fewer C) (M : Meaning) (I J : Instances) (f : FoundFewer fewer I J) where
   abbrev D : Choices
   D = with_names C fewer
 
   again : (scope : Scope) (p : Place) (cs ds : List Constraint) → of_constraints C defs M I scope p cs ≡ Some ds → AllOk fewer ds → of_constraints D defs M J scope p cs ≡ Some ds
-  again scope p cs ds e ok = constraints_again C fewer defs less M I J f fallen scope p cs ds e ok
+  again scope p cs ds e ok = constraints_again C fewer defs less M I J f scope p cs ds e ok
 
   -- ---- parts
 
@@ -181,31 +181,32 @@ module _ (C : Choices) (fewer : Names) (defs : Definitions) (less : AreFewer few
     ok : TypeOk fewer part
 
   replaced_part : (down : Bool) (scope : Scope) (ty : ASN1Type) (beside : List Constraint) (x : Target) → Holds (replaced C defs M I down scope ty beside (Some x)) (λ r. LayerOk fewer r → PartOf down x)
-  replaced_part down scope ty beside x =
-      once_holds (I.of_type down x.place.scope x.place.ty) _ _ (λ uy u. once_holds (of_constraints C defs M I x.place.scope x.place x.constraints) _ _ (λ es v. once_holds (of_constraints C defs M I scope (place scope ty) beside) _ _ (λ ds w.
-      weaker (followed_by (out-ASN1Type uy) (es ++ ds)) (λ r. LayerOk fewer r → LayerOk fewer (out-ASN1Type uy) × ((AllOk fewer (es ++ ds)) ⊎ (constraints_at (out-ASN1Type uy) ≡ None))) _ (followed_names fewer (out-ASN1Type uy) (es ++ ds)) (λ r k ok. record { part = uy; is = u; ok = layer_type fewer uy (k ok).0 }))))
+  replaced_part down scope ty beside x = once_holds (I.of_type down x.place.scope x.place.ty) _ _ (λ uy u. at uy u (has_no_place (out-ASN1Type uy)) refl)
+    where
+      at : (uy : ASN1Type) → I.of_type down x.place.scope x.place.ty ≡ Some uy → (c : Bool) → has_no_place (out-ASN1Type uy) ≡ c → Holds (extended C defs M I scope ty beside x (out-ASN1Type uy) c) (λ r. LayerOk fewer r → PartOf down x)
+      at uy u true e = λ ok. record { part = uy; is = u; ok = layer_type fewer uy ok }
+      at uy u false e = once_holds (of_constraints C defs M I x.place.scope x.place x.constraints) _ _ (λ es v. once_holds (of_constraints C defs M I scope (place scope ty) beside) _ _ (λ ds w.
+          weaker (followed_by (out-ASN1Type uy) (es ++ ds)) (λ r. LayerOk fewer r → LayerOk fewer (out-ASN1Type uy) × AllOk fewer (es ++ ds)) _ (followed_names fewer (out-ASN1Type uy) (es ++ ds) e) (λ r k ok. record { part = uy; is = u; ok = layer_type fewer uy (k ok).0 })))
 
   replaced_again : (down : Bool) (scope : Scope) (ty : ASN1Type) (beside : List Constraint) (target : Option Target) → Holds (replaced C defs M I down scope ty beside target) (λ r. LayerOk fewer r → replaced D defs M J down scope ty beside target ≡ Some r)
   replaced_again down scope ty beside None = tt
-  replaced_again down scope ty beside (Some x) =
-      once_holds (I.of_type down x.place.scope x.place.ty) _ _ (λ uy u. once_holds (of_constraints C defs M I x.place.scope x.place x.constraints) _ _ (λ es v. once_holds (of_constraints C defs M I scope (place scope ty) beside) _ _ (λ ds w.
-      result_is (followed_by (out-ASN1Type uy) (es ++ ds)) _ (λ r e ok.
-      let k = result_holds (followed_by (out-ASN1Type uy) (es ++ ds)) (λ r. LayerOk fewer r → LayerOk fewer (out-ASN1Type uy) × ((AllOk fewer (es ++ ds)) ⊎ (constraints_at (out-ASN1Type uy) ≡ None))) r (followed_names fewer (out-ASN1Type uy) (es ++ ds)) e ok in
-      ap (λ z. once None z (λ uy. once None (of_constraints D defs M J x.place.scope x.place x.constraints) (λ es. once None (of_constraints D defs M J scope (place scope ty) beside) (λ ds. followed_by (out-ASN1Type uy) (es ++ ds))))) (f.of_type down x.place.scope x.place.ty uy u (layer_type fewer uy k.0))
-      ∙ behind uy u es v ds w r e k.1))))
+  replaced_again down scope ty beside (Some x) = once_holds (I.of_type down x.place.scope x.place.ty) _ _ (λ uy u. at uy u (has_no_place (out-ASN1Type uy)) refl)
     where
-      behind : (uy : ASN1Type) → I.of_type down x.place.scope x.place.ty ≡ Some uy → (es : List Constraint) → of_constraints C defs M I x.place.scope x.place x.constraints ≡ Some es → (ds : List Constraint) → of_constraints C defs M I scope (place scope ty) beside ≡ Some ds →
-          (r : TypeLayer) → followed_by (out-ASN1Type uy) (es ++ ds) ≡ Some r → (AllOk fewer (es ++ ds)) ⊎ (constraints_at (out-ASN1Type uy) ≡ None) →
-          once None (of_constraints D defs M J x.place.scope x.place x.constraints) (λ es. once None (of_constraints D defs M J scope (place scope ty) beside) (λ ds. followed_by (out-ASN1Type uy) (es ++ ds))) ≡ Some r
-      behind uy u es v ds w r e (inl ok) =
-          ap (λ z. once None z (λ es. once None (of_constraints D defs M J scope (place scope ty) beside) (λ ds. followed_by (out-ASN1Type uy) (es ++ ds)))) (again x.place.scope x.place x.constraints es v (all_first fewer es ds ok))
-          ∙ ap (λ z. once None z (λ ds. followed_by (out-ASN1Type uy) (es ++ ds))) (again scope (place scope ty) beside ds w (all_second fewer es ds ok)) ∙ e
-      behind uy u es v ds w r e (inr none) =
-          let both = fallen down scope ty beside x uy u none (ap is_some v) (ap is_some w) in
-          let p = some_is (of_constraints D defs M J x.place.scope x.place x.constraints) both.0 in
-          let q = some_is (of_constraints D defs M J scope (place scope ty) beside) both.1 in
-          ap (λ z. once None z (λ es. once None (of_constraints D defs M J scope (place scope ty) beside) (λ ds. followed_by (out-ASN1Type uy) (es ++ ds)))) p.1
-          ∙ ap (λ z. once None z (λ ds. followed_by (out-ASN1Type uy) (p.0 ++ ds))) q.1 ∙ fallen_same (out-ASN1Type uy) (p.0 ++ q.0) (es ++ ds) none ∙ e
+      same_part : (uy : ASN1Type) (c : Bool) → I.of_type down x.place.scope x.place.ty ≡ Some uy → has_no_place (out-ASN1Type uy) ≡ c → LayerOk fewer (out-ASN1Type uy) →
+          replaced D defs M J down scope ty beside (Some x) ≡ extended D defs M J scope ty beside x (out-ASN1Type uy) c
+      same_part uy c u e ok =
+          ap (λ z. once None z (λ uy. extended D defs M J scope ty beside x (out-ASN1Type uy) (has_no_place (out-ASN1Type uy)))) (f.of_type down x.place.scope x.place.ty uy u (layer_type fewer uy ok))
+          ∙ ap (extended D defs M J scope ty beside x (out-ASN1Type uy)) e
+
+      at : (uy : ASN1Type) → I.of_type down x.place.scope x.place.ty ≡ Some uy → (c : Bool) → has_no_place (out-ASN1Type uy) ≡ c →
+          Holds (extended C defs M I scope ty beside x (out-ASN1Type uy) c) (λ r. LayerOk fewer r → replaced D defs M J down scope ty beside (Some x) ≡ Some r)
+      at uy u true e = λ ok. same_part uy true u e ok
+      at uy u false e = once_holds (of_constraints C defs M I x.place.scope x.place x.constraints) _ _ (λ es v. once_holds (of_constraints C defs M I scope (place scope ty) beside) _ _ (λ ds w.
+          result_is (followed_by (out-ASN1Type uy) (es ++ ds)) _ (λ r g ok.
+          let k = result_holds (followed_by (out-ASN1Type uy) (es ++ ds)) (λ r. LayerOk fewer r → LayerOk fewer (out-ASN1Type uy) × AllOk fewer (es ++ ds)) r (followed_names fewer (out-ASN1Type uy) (es ++ ds) e) g ok in
+          same_part uy false u e k.0
+          ∙ ap (λ z. once None z (λ es. once None (of_constraints D defs M J scope (place scope ty) beside) (λ ds. followed_by (out-ASN1Type uy) (es ++ ds)))) (again x.place.scope x.place x.constraints es v (all_first fewer es ds k.1))
+          ∙ ap (λ z. once None z (λ ds. followed_by (out-ASN1Type uy) (es ++ ds))) (again scope (place scope ty) beside ds w (all_second fewer es ds k.1)) ∙ g)))
 
   reference_again : (down : Bool) (scope : Scope) (ty : ASN1Type) (x : ReferenceLayer) → Holds (type_instance C defs M I down scope ty (ASN1Type-F.ElsewhereDeclaredType x)) (λ r. LayerOk fewer r → type_instance D defs M J down scope ty (ASN1Type-F.ElsewhereDeclaredType x) ≡ Some r)
   reference_again down scope ty x = at (stays C down scope x) refl
@@ -293,13 +294,13 @@ module _ (C : Choices) (fewer : Names) (defs : Definitions) (less : AreFewer few
   set_next : (scope : Scope) (s : Subject) (x y : ElementOrSetOperation) → (instance_at C defs M I).of_set scope s x ≡ Some y → SetOk fewer y → (instance_at D defs M J).of_set scope s x ≡ Some y
   set_next scope s x y e ok =
       let r = rolled_set y (set_instance C defs M I scope s (out-ElementOrSetOperation x)) e in
-      let found = result_holds (set_instance C defs M I scope s (out-ElementOrSetOperation x)) (λ r. SetLayerOk fewer r → set_instance D defs M J scope s (out-ElementOrSetOperation x) ≡ Some r) r.0 (set_again C fewer defs less M I J f fallen scope s (out-ElementOrSetOperation x)) r.1 in
+      let found = result_holds (set_instance C defs M I scope s (out-ElementOrSetOperation x)) (λ r. SetLayerOk fewer r → set_instance D defs M J scope s (out-ElementOrSetOperation x) ≡ Some r) r.0 (set_again C fewer defs less M I J f scope s (out-ElementOrSetOperation x)) r.1 in
       ap (λ z. once None z (λ l. Some (roll-ElementOrSetOperation l))) (found (subst (λ z. SetLayerOk fewer z) r.3 (set_layer fewer y ok))) ∙ r.2
 
   element_next : (scope : Scope) (s : Subject) (x y : SubtypeElement) → (instance_at C defs M I).of_element scope s x ≡ Some y → ElementOk fewer y → (instance_at D defs M J).of_element scope s x ≡ Some y
   element_next scope s x y e ok =
       let r = rolled_element y (element_instance C defs M I scope s (out-SubtypeElement x)) e in
-      let found = result_holds (element_instance C defs M I scope s (out-SubtypeElement x)) (λ r. ElementLayerOk fewer r → element_instance D defs M J scope s (out-SubtypeElement x) ≡ Some r) r.0 (element_again C fewer defs less M I J f fallen scope s (out-SubtypeElement x)) r.1 in
+      let found = result_holds (element_instance C defs M I scope s (out-SubtypeElement x)) (λ r. ElementLayerOk fewer r → element_instance D defs M J scope s (out-SubtypeElement x) ≡ Some r) r.0 (element_again C fewer defs less M I J f scope s (out-SubtypeElement x)) r.1 in
       ap (λ z. once None z (λ l. Some (roll-SubtypeElement l))) (found (subst (λ z. ElementLayerOk fewer z) r.3 (element_layer fewer y ok))) ∙ r.2
 
   level_next : FoundFewer fewer (instance_at C defs M I) (instance_at D defs M J)
@@ -316,13 +317,12 @@ nothing_fewer fewer J = record {
   of_tag = λ scope ty uy tag e ok g. absurd cc;
 }
 
-level : (C : Choices) (fewer : Names) (defs : Definitions) → AreFewer fewer C → (n k i : ℕ) → FallsAlike C fewer defs n k → (d : ℕ) → i + d ≡ k → FoundFewer fewer (instance C defs n i) (instance (with_names C fewer) defs n i)
+level : (C : Choices) (fewer : Names) (defs : Definitions) → AreFewer fewer C → (n i : ℕ) → FoundFewer fewer (instance C defs n i) (instance (with_names C fewer) defs n i)
 unfolding instance
-level C fewer defs less n k zero fallen d e = nothing_fewer fewer _
-level C fewer defs less n k (suc i) fallen d e =
-    let g : i + suc d ≡ k = omega (arith, e) in
-    level_next C fewer defs less (meaning defs n) (instance C defs n i) (instance (with_names C fewer) defs n i) (level C fewer defs less n k i fallen (suc d) g) (fallen i (d, g))
+level C fewer defs less n zero = nothing_fewer fewer _
+level C fewer defs less n (suc i) =
+    level_next C fewer defs less (meaning defs n) (instance C defs n i) (instance (with_names C fewer) defs n i) (level C fewer defs less n i)
 
-pub fewer_names : (C : Choices) (fewer : Names) (defs : Definitions) (n k : ℕ) → AreFewer fewer C → FallsAlike C fewer defs n k →
+pub fewer_names : (C : Choices) (fewer : Names) (defs : Definitions) (n k : ℕ) → AreFewer fewer C →
     (down : Bool) (scope : Scope) (ty uy : ASN1Type) → (instance C defs n k).of_type down scope ty ≡ Some uy → NamesStay fewer uy → (instance (with_names C fewer) defs n k).of_type down scope ty ≡ Some uy
-fewer_names C fewer defs n k less fallen down scope ty uy e ok = let g : k + zero ≡ k = omega arith in (level C fewer defs less n k k fallen zero g).of_type down scope ty uy e ok
+fewer_names C fewer defs n k less down scope ty uy e ok = (level C fewer defs less n k).of_type down scope ty uy e ok

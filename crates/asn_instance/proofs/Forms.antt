@@ -16,7 +16,7 @@ use Rattle.asn_meaning.specs.Ranges.{codes_at, is_free_kind, named_numbers_in, n
 use Rattle.asn_meaning.specs.Scopes.{Place, Scope, bound_to}
 use Rattle.asn_calls.specs.Types.{with_constraints_at}
 use Rattle.asn_instance.specs.Heads.{Alike, KindForm, MadeMembers, MadeStruct}
-use Rattle.asn_instance.specs.Instance.{followed_by}
+use Rattle.asn_instance.specs.Instance.{followed_by, has_no_place}
 use Rattle.asn_instance.specs.Subjects.{Choices}
 use Rattle.asn_notation.specs.Types.{constraints_at}
 use Rattle.asn_instance.proofs.Holding.{Holds}
@@ -87,6 +87,19 @@ followed ASN1Type-F.ASN1Type::Null zs = record { beside = λ f. ([], refl, refl)
 followed ASN1Type-F.EmbeddedPdv zs = record { beside = λ f. ([], refl, refl); owns = inr (refl, (λ defs M scope. refl), refl) }
 followed ASN1Type-F.External zs = record { beside = λ f. ([], refl, refl); owns = inr (refl, (λ defs M scope. refl), refl) }
 followed l zs = record { beside = λ f. (own l ++ zs, refl, lists_append (own l) zs f); owns = inl refl }
+
+-- a layer that has no place for constraints, with none
+pub fallen : (l : TypeLayer) → has_no_place l ≡ true → Followed l [] l
+fallen ASN1Type-F.ASN1Type::Null e = followed ASN1Type-F.ASN1Type::Null []
+fallen ASN1Type-F.EmbeddedPdv e = followed ASN1Type-F.EmbeddedPdv []
+fallen ASN1Type-F.External e = followed ASN1Type-F.External []
+fallen _ e = absurd cc
+
+pub own_fallen : (l : TypeLayer) → has_no_place l ≡ true → own l ≡ []
+own_fallen ASN1Type-F.ASN1Type::Null e = refl
+own_fallen ASN1Type-F.EmbeddedPdv e = refl
+own_fallen ASN1Type-F.External e = refl
+own_fallen _ e = absurd cc
 
 -- ---- where a layer leads does not change with its constraints
 

@@ -1,5 +1,5 @@
 -- What holds of a result, where there is one.
-use Rattle.std.proofs.Common.{None, Option, Some, refl, subst, ◌≡◌}
+use Rattle.std.proofs.Common.{None, Option, Some, refl, subst, sym, ◌≡◌}
 use Rattle.asn_meaning.specs.Answers.{once}
 
 abbrev pub Holds : {A : Type 0} → Option A → (A → Type 0) → Type 0
@@ -25,3 +25,14 @@ weaker (Some x) P Q p h = h x p
 
 pub some_same : {A : Type 0} (x y : A) → Some x ≡ Some y → x ≡ y
 some_same x y e = cc
+
+pub rolled : {A B : Type 0} (roll : A → B) (out : B → A) → ((l : A) → out (roll l) ≡ l) → (a : Option A) (P : A → Type 0) (x : B) → Holds a P → once None a (λ l. Some (roll l)) ≡ Some x → P (out x)
+rolled roll out same None P x p e = absurd cc
+rolled roll out same (Some l) P x p e =
+    let q : roll l ≡ x = cc in
+    subst (λ z. P (out z)) q (subst P (sym (same l)) p)
+
+-- what is told of a result by what it is
+pub result_is : {A : Type 0} (a : Option A) (Q : A → Type 0) → ((x : A) → a ≡ Some x → Q x) → Holds a Q
+result_is None Q h = tt
+result_is (Some x) Q h = h x refl

@@ -1,5 +1,5 @@
 -- Substitution equals look-up, and back.
-use Rattle.std.proofs.Common.{Bool, List, None, Option, Some, [], ap, arith, false, inr, refl, subst, suc, sym, true, zero, ℕ, ◌++◌, ◌+◌, ◌↔◌, ◌∙◌, ◌∷◌, ◌≡◌}
+use Rattle.std.proofs.Common.{Bool, List, None, Option, Some, [], ap, arith, false, inl, inr, refl, subst, suc, sym, true, zero, ℕ, ◌++◌, ◌+◌, ◌↔◌, ◌∙◌, ◌∷◌, ◌≡◌}
 use Rattle.asn_tree.specs.declared.constraints.Constraint.{Constraint}
 use Rattle.asn_tree.specs.declared.constraints.ElementOrSetOperation.{ElementOrSetOperation}
 use Rattle.asn_tree.specs.declared.constraints.SubtypeElement.{SubtypeElement}
@@ -14,7 +14,7 @@ use Rattle.asn_meaning.specs.Judge.{meaning, nothing_known, step}
 use Rattle.asn_meaning.specs.Layers.{StructLayer}
 use Rattle.asn_meaning.specs.Meaning.{Meaning, Member, Parent}
 use Rattle.asn_meaning.specs.Members.{and_then, members_from, put_in, written_member}
-use Rattle.asn_meaning.specs.Names.{IsHead, head_at, head_from, lead}
+use Rattle.asn_meaning.specs.Names.{head_at, lead}
 use Rattle.asn_meaning.specs.Scopes.{Empty, Place, Scope, Target, bare}
 use Rattle.asn_meaning.specs.ValueTrees.{ValueTree}
 use Rattle.asn_meaning.proofs.Answering.{both_refines, once_refines, once_within, one_of, refines_through, same_within, within_through}
@@ -28,11 +28,12 @@ use Rattle.asn_instance.specs.Linked.{LinkedBy, LinkedTarget, SameOrLinked, plai
 use Rattle.asn_instance.specs.Subjects.{Choices, Subject}
 use Rattle.asn_instance.specs.Ways.{Back, Forth, Known, Refined, steps_back}
 use Rattle.asn_instance.proofs.Below.{Below, Constrained, First, Instanced, IsOf, MadeChain, MadeElement, MadeSet, MoreBy, accepts_upto, fewer, numbers_upto, plain_members}
+use Rattle.asn_instance.proofs.Falling.{heads_within, leads_back, leads_later, no_type}
 use Rattle.asn_instance.proofs.Forms.{Beside, own, same_beside}
 use Rattle.asn_instance.proofs.Holding.{some_same}
 use Rattle.asn_instance.proofs.KeptElements.{element_holds}
 use Rattle.asn_instance.proofs.KeptSteps.{chain_made, made_accepts, made_numbers, type_head}
-use Rattle.asn_instance.proofs.KeptTypes.{leads_back, leads_later, no_type, viewed}
+use Rattle.asn_instance.proofs.KeptTypes.{viewed}
 use Rattle.asn_instance.proofs.Pairs.{Paired}
 use Rattle.asn_meaning.specs.Names as names
 
@@ -47,16 +48,7 @@ module _ (defs : Definitions) (M N : Meaning) (m : More M N) where
   numbers_more : (p : Place) (cs : List Constraint) → Within (numbers_upto defs M p cs) (numbers_upto defs N p cs)
   numbers_more p cs = once_within _ _ _ _ (m.head p) (λ head. narrowed_by_all_more M N m p.scope head _ _ cs (numbers_before_more M N m defs p))
 
--- ---- heads and members that lead nowhere
-
-pub step_heads : (defs : Definitions) (N : Meaning) (p : Place) → ((O : Meaning) → lead defs O p ≡ IsHead) → (step defs N).head p ≡ Some p
-unfolding step
-step_heads defs N p f = ap (head_from N p) (f N)
-
-heads_within : (defs : Definitions) (n : ℕ) (p : Place) → ((O : Meaning) → lead defs O p ≡ IsHead) → Within ((meaning defs n).head p) (Some p)
-unfolding meaning nothing_known
-heads_within defs zero p f = tt
-heads_within defs (suc n) p f = subst (λ z. Within z (Some p)) (sym (step_heads defs (meaning defs n) p f)) refl
+-- ---- members that lead nowhere
 
 plain_from : (N : Meaning) (y : StructLayer) (number : ℕ) (ws : List SequenceOrSetMember) → y.components_of ≡ [] → members_from N Empty y number ws ≡ Some (plain_members Empty y.extensible number ws)
 plain_from N y number [] e = ap (λ z. put_in N Empty number z y.components_at) e
@@ -172,6 +164,7 @@ module _ (C : Choices) (defs others : Definitions) (k : ℕ) (linked : SameOrLin
       ((scope : Scope) (s : Subject) (a b : Parent) (e f : SubtypeElement) (t : ValueTree) → MadeElement C defs j scope s e f → IsOf C defs others j Forth s a b → Refined Forth ((meaning defs n).holds scope a e t) ((right others j n).holds Empty b f t)) → Lower n
   lower n heads numbers accepts chains holds = record {
     more = knows n;
+    known = (n, refl);
     same_head = λ i before p g h e f. one_of ((meaning defs i).head p) ((meaning defs n).head p) ((meaning defs (n + i)).head p) g h ((left_sum n i).head p) ((right_sum n i).head p) e f;
     same_members = λ i before scope x ms ns e f. one_of ((meaning defs i).members scope x) ((meaning defs n).members scope x) ((meaning defs (n + i)).members scope x) ms ns ((left_sum n i).members scope x) ((right_sum n i).members scope x) e f;
     led = λ i before p x e. leads_back (lead defs (meaning defs n) p) (lead defs (meaning defs (n + i)) p) x (lead_more (meaning defs n) (meaning defs (n + i)) (right_sum n i) defs p)
@@ -206,9 +199,9 @@ module _ (C : Choices) (defs others : Definitions) (k : ℕ) (linked : SameOrLin
     next_first : (floor i : ℕ) → Before C defs j (floor + i) → First C defs others j Forth (step defs (meaning defs n)) (right others j n) floor i
     unfolding step
     next_first floor zero before = record {
-      head = λ down scope ty uy ry e s. absurd (no_type C defs others j floor down scope ty uy e);
-      numbers = λ down scope ty uy ry cs ds e s c. absurd (no_type C defs others j floor down scope ty uy e);
-      accepts = λ down scope ty uy ry cs ds t e s c. absurd (no_type C defs others j floor down scope ty uy e);
+      head = λ down scope ty uy ry e s. absurd (no_type C defs floor down scope ty uy e);
+      numbers = λ down scope ty uy ry cs ds e s c. absurd (no_type C defs floor down scope ty uy e);
+      accepts = λ down scope ty uy ry cs ds t e s c. absurd (no_type C defs floor down scope ty uy e);
     }
     next_first floor (suc i) before =
         let less = fewer C defs j floor i before in
@@ -312,6 +305,7 @@ module _ (C : Choices) (defs others : Definitions) (k : ℕ) (linked : SameOrLin
         more = λ same.
             let known : More (meaning others n) (meaning defs m) = subst (λ z. More (meaning z n) (meaning defs m)) (sym same) (knows_back n m enough) in
             record { head = known.head; members = known.members; numbers = known.numbers; accepts = known.accepts };
+        known = (m, refl);
         same_head = λ i before p g h e f. one_of ((meaning defs i).head p) ((meaning defs m).head p) ((meaning defs m).head p) g h ((knows_instance n m i enough before).head p) (same_within _) e f;
         same_members = λ i before scope x ms ns e f. one_of ((meaning defs i).members scope x) ((meaning defs m).members scope x) ((meaning defs m).members scope x) ms ns ((knows_instance n m i enough before).members scope x) (same_within _) e f;
         led = λ i before p x e. leads_later (lead defs (meaning defs i) p) (lead defs (meaning defs m) p) x (lead_more (meaning defs i) (meaning defs m) (knows_instance n m i enough before) defs p) e;
@@ -338,9 +332,9 @@ module _ (C : Choices) (defs others : Definitions) (k : ℕ) (linked : SameOrLin
     back_first : (floor i m : ℕ) → Before C defs beyond (floor + i) → (d : ℕ) → d + i + steps_back beyond n ≡ m → First C defs others beyond Back (meaning defs m) (meaning others n) floor i
     unfolding meaning step
     back_first floor zero m before d e = record {
-      head = λ down scope ty uy ry e s. absurd (no_type C defs others beyond floor down scope ty uy e);
-      numbers = λ down scope ty uy ry cs ds e s c. absurd (no_type C defs others beyond floor down scope ty uy e);
-      accepts = λ down scope ty uy ry cs ds t e s c. absurd (no_type C defs others beyond floor down scope ty uy e);
+      head = λ down scope ty uy ry e s. absurd (no_type C defs floor down scope ty uy e);
+      numbers = λ down scope ty uy ry cs ds e s c. absurd (no_type C defs floor down scope ty uy e);
+      accepts = λ down scope ty uy ry cs ds t e s c. absurd (no_type C defs floor down scope ty uy e);
     }
     back_first floor (suc i) zero before d e = absurd (omega (arith, e))
     back_first floor (suc i) (suc m) before d e =
@@ -384,7 +378,7 @@ pub instance_kept : (C : Choices) (defs others : Definitions) (n k : ℕ) → Sa
 instance_kept C defs others n k linked values m down scope ty uy t e =
     let b = (forth C defs others (n + k) linked values m).0 in
     let f : n + k + suc zero ≡ suc (n + k) = omega arith in
-    subst (λ z. Refines (judge defs m scope ty t) (z.accepts (place Empty uy) [] t)) (right_is others (suc (n + k)) m) (b.accepts down scope ty uy [] [] t (n, k, (zero, f), e) (n, k, (zero, f), refl))
+    subst (λ z. Refines (judge defs m scope ty t) (z.accepts (place Empty uy) [] t)) (right_is others (suc (n + k)) m) (b.accepts down scope ty uy [] [] t (n, k, (zero, f), e) (inl (n, k, (zero, f), refl)))
 
 pub instance_kept_back : (C : Choices) (defs others : Definitions) (n k : ℕ) → SameOrLinked C defs others (suc (n + k)) → KeepsValuesBack C defs others (suc (n + k)) →
     (m : ℕ) (down : Bool) (scope : Scope) (ty uy : ASN1Type) (t : ValueTree) → (instance C defs n k).of_type down scope ty ≡ Some uy →
@@ -393,7 +387,7 @@ instance_kept_back C defs others n k linked values m down scope ty uy t e =
     let g : zero + steps_back (suc (n + k)) m ≡ steps_back (suc (n + k)) m = omega arith in
     let b = back C defs others (n + k) linked values m (steps_back (suc (n + k)) m) (zero, g) in
     let f : n + k + suc zero ≡ suc (n + k) = omega arith in
-    b.accepts down scope ty uy [] [] t (n, k, (zero, f), e) (n, k, (zero, f), refl)
+    b.accepts down scope ty uy [] [] t (n, k, (zero, f), e) (inl (n, k, (zero, f), refl))
 
 stays_yes : (a b : Answer) → Refines a b → a ≡ Yes → b ≡ Yes
 stays_yes a b p e = subst (λ x. Refines x b) e p
@@ -439,13 +433,13 @@ module _ (C : Choices) (defs others : Definitions) (k : ℕ) (linked : LinkedBy 
   instanced_kept : (ty uy : ASN1Type) → Instanced C defs (suc k) false Empty ty uy → (n : ℕ) (t : ValueTree) → Refines (judge defs n Empty ty t) (judge others (n + suc k) Empty uy t)
   instanced_kept ty uy (floor, i, before, e) n t =
       let b = (forth C defs others k (inr linked) values n).0 in
-      subst (λ z. Refines (judge defs n Empty ty t) (z.accepts (place Empty uy) [] t)) (right_is others (suc k) n) (b.accepts false Empty ty uy [] [] t (floor, i, before, e) (floor, i, before, refl))
+      subst (λ z. Refines (judge defs n Empty ty t) (z.accepts (place Empty uy) [] t)) (right_is others (suc k) n) (b.accepts false Empty ty uy [] [] t (floor, i, before, e) (inl (floor, i, before, refl)))
 
   instanced_back : (ty uy : ASN1Type) → Instanced C defs (suc k) false Empty ty uy → (n : ℕ) (t : ValueTree) → Refines (judge others n Empty uy t) (judge defs (steps_back (suc k) n) Empty ty t)
   instanced_back ty uy (floor, i, before, e) n t =
       let g : zero + steps_back (suc k) n ≡ steps_back (suc k) n = omega arith in
       let b = back C defs others k (inr linked) values_back n (steps_back (suc k) n) (zero, g) in
-      b.accepts false Empty ty uy [] [] t (floor, i, before, e) (floor, i, before, refl)
+      b.accepts false Empty ty uy [] [] t (floor, i, before, e) (inl (floor, i, before, refl))
 
   same_trees : (ty uy : ASN1Type) → Instanced C defs (suc k) false Empty ty uy → (t : ValueTree) → (Accepts defs Empty ty t ↔ Accepts others Empty uy t) × (Rejects defs Empty ty t ↔ Rejects others Empty uy t)
   same_trees ty uy u t = (

@@ -1,5 +1,5 @@
 -- Constraints in a row are kept.
-use Rattle.std.proofs.Common.{Bool, List, None, Option, Some, [], ap, false, refl, subst, sym, true, ℕ, ◌++◌, ◌+◌, ◌∙◌, ◌∷◌, ◌≡◌}
+use Rattle.std.proofs.Common.{Bool, List, None, Option, Some, [], ap, false, inl, inr, refl, subst, sym, true, ℕ, ◌++◌, ◌+◌, ◌∙◌, ◌∷◌, ◌≡◌}
 use Rattle.std.specs.Prelude.{if◌then◌else◌}
 use Rattle.asn_tree.specs.declared.constraints.Constraint.{Constraint, Constraint-F, out-Constraint, out-roll-Constraint, roll-Constraint}
 use Rattle.asn_meaning.specs.Answers.{Unknown, Yes, both, once}
@@ -124,8 +124,17 @@ module _ (C : Choices) (defs others : Definitions) (j : ℕ) (way : Way) (M L : 
         (subst (λ z. Known way (narrowed_by_all M scope h (narrowed_by_all M scope h x cs) es) z) (sym (narrowed_append L Empty k y ds fs)) (q.numbers _ _ (p.numbers x y w)));
   }
 
+  -- on a free head all say yes, as none does
+  all_fallen : (scope : Scope) (h k : Place) (cs : List Constraint) → is_free h ≡ true → KeptAll scope h k cs []
+  all_fallen scope h k cs e = record {
+    answers = λ x y t w. subst (λ z. Refined way z Yes) (sym (free_all M scope h x cs t e)) (same_refined way Yes);
+    numbers = λ x y w. subst (λ z. Known way z y) (sym (free_numbers M scope h x cs e)) w;
+  }
+
   all_kept_at : (scope : Scope) (p h k : Place) (cs ds : List Constraint) → M.head p ≡ Some h → Alike C defs others j h k → Constrained C defs j scope p cs ds → KeptAll scope h k cs ds
-  all_kept_at scope p h k cs ds f a (floor, i, n, e) = result_holds (constraints_made C defs floor i scope p cs) (KeptAll scope h k cs) ds (all_kept scope p h k floor i n f a cs) e
+  all_kept_at scope p h k cs ds f a (inl (floor, i, n, e)) = result_holds (constraints_made C defs floor i scope p cs) (KeptAll scope h k cs) ds (all_kept scope p h k floor i n f a cs) e
+  all_kept_at scope p h k cs ds f a (inr (none, free)) =
+      subst (λ z. KeptAll scope h k cs z) (sym none) (all_fallen scope h k cs (free b.known.0 h (subst (λ z. z.head p ≡ Some h) b.known.1 f)))
 
   abbrev FoundBoth : Place → Place → Place → Place → Type 0
   FoundBoth p r h k = (M.head p ≡ Some h) × (L.head r ≡ Some k) × Alike C defs others j h k

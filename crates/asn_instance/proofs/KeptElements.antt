@@ -1,5 +1,5 @@
 -- What elements hold of is kept.
-use Rattle.std.proofs.Common.{List, None, Option, Some, [], ap, refl, subst, sym, true, ℕ, ◌+◌, ◌∙◌, ◌≡◌}
+use Rattle.std.proofs.Common.{List, None, Option, Some, [], ap, inl, refl, subst, sym, true, ℕ, ◌+◌, ◌∙◌, ◌≡◌}
 use Rattle.asn_tree.specs.declared.constraints.Constraint.{Constraint}
 use Rattle.asn_tree.specs.declared.constraints.ElementOrSetOperation.{ElementOrSetOperation}
 use Rattle.asn_tree.specs.declared.constraints.SubtypeElement.{SubtypeElement, SubtypeElement-F, out-SubtypeElement}
@@ -55,14 +55,14 @@ module _ (C : Choices) (defs others : Definitions) (j : ℕ) (way : Way) (M L : 
             (matched_found (λ p q. Stands C defs others j p q) (element_place h) (element_place k) (element_both C defs others j way M L b h k a)) (λ u q s. listed_parts p u q (some_same _ _ (sym e ∙ s.0)) s.1 ds f t)
           where
             listed_parts : (p u q : Place) → p ≡ u → Stands C defs others j u q → (ds : List Constraint) → of_constraints C defs (meaning defs floor) (instance C defs floor i) scope p cs ≡ Some ds → (t : ValueTree) → Refined way (list_judged (part_holds M scope u cs) t) (list_judged (part_holds L Empty q ds) t)
-            listed_parts p u q same s ds f (Elements ts) = trees_refined way (part_holds M scope u cs) (part_holds L Empty q ds) (λ t. part_kept C defs others j way M L b scope u q cs ds t s (floor, i, n, subst (λ z. constraints_made C defs floor i scope z cs ≡ Some ds) same f)) ts
+            listed_parts p u q same s ds f (Elements ts) = trees_refined way (part_holds M scope u cs) (part_holds L Empty q ds) (λ t. part_kept C defs others j way M L b scope u q cs ds t s (inl (floor, i, n, subst (λ z. constraints_made C defs floor i scope z cs ≡ Some ds) same f))) ts
             listed_parts p u q same s ds f _ = same_refined way No
 
     holds_kept : (s : Subject) (p q : Parent) → IsOf C defs others j way s p q → (l : ElementLayer) → Holds (element_instance C defs (meaning defs floor) (instance C defs floor i) scope s l) (λ r. (t : ValueTree) → Refined way (holds_at M scope p t l) (holds_at L Empty q t r))
     holds_kept s p q o (SubtypeElement-F.SingleValue v e) = once_holds (C.value (meaning defs floor) scope v (values_read s)) _ _ (λ w u t.
         unless_refined way _ _ _ _ (all_kept C defs others j way M L b floor i n scope v w s p q o u) (λ e f. compared_kept s p q t _ _ o (value_kept C defs others j way M L b floor i n scope v w s p q o u e f)))
-    holds_kept s p q o (SubtypeElement-F.ContainedSubtype ty e) = once_holds ((instance C defs floor i).of_type true scope ty) _ _ (λ uy u t. b.accepts true scope ty uy [] [] t (floor, i, n, u) (floor, i, n, refl))
-    holds_kept s p q o (SubtypeElement-F.TypeConstraint ty) = once_holds ((instance C defs floor i).of_type true scope ty) _ _ (λ uy u t. b.accepts true scope ty uy [] [] t (floor, i, n, u) (floor, i, n, refl))
+    holds_kept s p q o (SubtypeElement-F.ContainedSubtype ty e) = once_holds ((instance C defs floor i).of_type true scope ty) _ _ (λ uy u t. b.accepts true scope ty uy [] [] t (floor, i, n, u) (inl (floor, i, n, refl)))
+    holds_kept s p q o (SubtypeElement-F.TypeConstraint ty) = once_holds ((instance C defs floor i).of_type true scope ty) _ _ (λ uy u t. b.accepts true scope ty uy [] [] t (floor, i, n, u) (inl (floor, i, n, refl)))
     holds_kept s p q o (SubtypeElement-F.ValueRange low high low_open high_open e) = range_kept C defs others j way M L b floor i n scope s p q o low high low_open high_open _ e (λ l h w u t. asked_kept s p q t _ _ _ _ o w u)
     holds_kept s p q o (SubtypeElement-F.PermittedAlphabet set) = once_holds ((instance C defs floor i).of_set scope OnCharacters set) _ _ (λ x u t. alphabet_kept s p q o set x (floor, i, n, u) t)
     holds_kept s p q o (SubtypeElement-F.SizeConstraint set) = once_holds ((instance C defs floor i).of_set scope (OnValues (integer_named None)) set) _ _ (λ x u t. size_kept set x (floor, i, n, u) t)

@@ -1,5 +1,5 @@
 -- WITH COMPONENTS is kept.
-use Rattle.std.proofs.Common.{Bool, List, None, Option, Some, [], ap, false, not, refl, subst, sym, true, ℕ, ◌&&◌, ◌+◌, ◌||◌, ◌∙◌, ◌∷◌, ◌≡◌}
+use Rattle.std.proofs.Common.{Bool, List, None, Option, Some, [], ap, false, inl, not, refl, subst, sym, true, ℕ, ◌&&◌, ◌+◌, ◌||◌, ◌∙◌, ◌∷◌, ◌≡◌}
 use Rattle.std.specs.Prelude.{cond, is_none, is_some}
 use Rattle.std.specs.Str.{bytes_eq}
 use Rattle.asn_kinds.specs.declared.constraints.ComponentPresence.{ComponentPresence}
@@ -88,7 +88,7 @@ module _ (C : Choices) (defs others : Definitions) (j : ℕ) (way : Way) (M L : 
           both_refined way _ _ _ _
           (equal_refined way _ _ (ap (λ z. answer_of (is_choice_allowed z (bytes_eq name d.identifier))) m.presence ∙ ap (λ z. answer_of (is_choice_allowed c.presence (bytes_eq name z))) m.identifier))
           (if_refined way (bytes_eq name c.identifier) (bytes_eq name d.identifier) _ _ Yes Yes (ap (bytes_eq name) m.identifier)
-          (part_kept scope (option_place hs o) (option_place ks p) c.constraints d.constraints t k.stands (floor, i, n, subst (λ z. constraints_made C defs floor i scope z c.constraints ≡ Some d.constraints) (sym same) m.constraints_are))
+          (part_kept scope (option_place hs o) (option_place ks p) c.constraints d.constraints t k.stands (inl (floor, i, n, subst (λ z. constraints_made C defs floor i scope z c.constraints ≡ Some d.constraints) (sym same) m.constraints_are)))
           (same_refined way Yes))
 
       listed_option : (c d : ListedLayer) → ListedMade C defs floor i scope hs (ChoiceKind os) c d → Refined way (listed_option_holds M scope hs os name t c) (listed_option_holds L Empty ks ps name t d)
@@ -146,7 +146,7 @@ module _ (C : Choices) (defs others : Definitions) (j : ℕ) (way : Way) (M L : 
           equal_refined way _ _ (ap (λ z. answer_of (not (must_be_present is_partial z w))) m.presence ∙ ap (λ z. answer_of (not z)) (present_same is_partial c.presence u w p))
       present_kept c d m u w e p (Some t) =
           both_refined way _ _ _ _ (equal_refined way _ _ (ap (λ z. answer_of (not (is_absent_word z))) m.presence))
-          (part_kept scope (member_place u) (member_place w) c.constraints d.constraints t p.stands (floor, i, n, subst (λ z. constraints_made C defs floor i scope z c.constraints ≡ Some d.constraints) (sym (same_part c d m u e)) m.constraints_are))
+          (part_kept scope (member_place u) (member_place w) c.constraints d.constraints t p.stands (inl (floor, i, n, subst (λ z. constraints_made C defs floor i scope z c.constraints ≡ Some d.constraints) (sym (same_part c d m u e)) m.constraints_are)))
 
       listed_member : (c d : ListedLayer) → ListedMade C defs floor i scope hs (StructKind x) c d → Refined way (listed_member_holds M scope is_partial ms fs c) (listed_member_holds L Empty is_partial ws fs d)
       listed_member c d m =

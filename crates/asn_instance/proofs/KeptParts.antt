@@ -76,11 +76,11 @@ module _ (C : Choices) (defs others : Definitions) (j : ℕ) (way : Way) (M L : 
 
   pub stands_numbers : (p q : Place) → Stands C defs others j p q → Known way (M.numbers p []) (L.numbers q [])
   stands_numbers p q (inl (e, same)) = subst (λ z. Known way (M.numbers p []) (L.numbers z [])) e ((b.more same).numbers p [])
-  stands_numbers p q (inr (e, (down, (floor, i, n, u)))) = subst (λ z. Known way (M.numbers p []) (L.numbers (record { scope = z; ty = q.ty }) [])) (sym e) (b.numbers down p.scope p.ty q.ty [] [] (floor, i, n, u) (floor, i, n, refl))
+  stands_numbers p q (inr (e, (down, (floor, i, n, u)))) = subst (λ z. Known way (M.numbers p []) (L.numbers (record { scope = z; ty = q.ty }) [])) (sym e) (b.numbers down p.scope p.ty q.ty [] [] (floor, i, n, u) (inl (floor, i, n, refl)))
 
   pub stands_accepts : (p q : Place) (t : ValueTree) → Stands C defs others j p q → Refined way (M.accepts p [] t) (L.accepts q [] t)
   stands_accepts p q t (inl (e, same)) = subst (λ z. Refined way (M.accepts p [] t) (L.accepts z [] t)) e ((b.more same).accepts p [] t)
-  stands_accepts p q t (inr (e, (down, (floor, i, n, u)))) = subst (λ z. Refined way (M.accepts p [] t) (L.accepts (record { scope = z; ty = q.ty }) [] t)) (sym e) (b.accepts down p.scope p.ty q.ty [] [] t (floor, i, n, u) (floor, i, n, refl))
+  stands_accepts p q t (inr (e, (down, (floor, i, n, u)))) = subst (λ z. Refined way (M.accepts p [] t) (L.accepts (record { scope = z; ty = q.ty }) [] t)) (sym e) (b.accepts down p.scope p.ty q.ty [] [] t (floor, i, n, u) (inl (floor, i, n, refl)))
 
   module _ (floor i : ℕ) (n : Before C defs j (floor + i)) where
     -- ---- options
@@ -89,7 +89,7 @@ module _ (C : Choices) (defs others : Definitions) (j : ℕ) (way : Way) (M L : 
     option_kept hs o =
         once_holds ((instance C defs floor i).of_type false hs o.ty) _ _ (λ ty e. once_holds (of_constraints C defs (meaning defs floor) (instance C defs floor i) hs (place hs o.ty) o.constraints) _ _ (λ cs f.
         once_holds (placed_tag C defs (meaning defs floor) (instance C defs floor i) hs o.tag o.ty) _ _ (λ tag g.
-        record { name = refl; stands = inr (refl, (false, (floor, i, n, e))); accepts = λ t. b.accepts false hs o.ty ty o.constraints cs t (floor, i, n, e) (floor, i, n, f) })))
+        record { name = refl; stands = inr (refl, (false, (floor, i, n, e))); accepts = λ t. b.accepts false hs o.ty ty o.constraints cs t (floor, i, n, e) (inl (floor, i, n, f)) })))
 
     made_options : (hs : Scope) (os ps : List ChoiceOption) → MadeOptions C defs floor i hs os ps → (name : List ℕ) → Matched (λ o p. OptionKept C defs others j way M L hs Empty o p) (option_named os name) (option_named ps name)
     made_options hs [] [] m name = refl
@@ -113,7 +113,7 @@ module _ (C : Choices) (defs others : Definitions) (j : ℕ) (way : Way) (M L : 
           default = perhaps_some _ m.written.default_value d g;
           addition = same;
           stands = inr (refl, (false, (floor, i, n, e)));
-          accepts = λ t. b.accepts false m.scope m.written.ty ty m.written.constraints cs t (floor, i, n, e) (floor, i, n, f);
+          accepts = λ t. b.accepts false m.scope m.written.ty ty m.written.constraints cs t (floor, i, n, e) (inl (floor, i, n, f));
         }))))
 
     made_members : (marker : Option ℕ) (number : ℕ) (ms : List Member) (ws : List SequenceOrSetMember) → MadeMembers C defs floor i marker number ms ws → MembersKept C defs others j way M L ms (plain_members Empty marker number ws)

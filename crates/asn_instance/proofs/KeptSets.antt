@@ -26,17 +26,9 @@ use Rattle.asn_instance.specs.Subjects.{Choices, OnCharacters, OnValues, Subject
 use Rattle.asn_instance.specs.Ways.{Known, Refined, Settled, Way}
 use Rattle.asn_instance.proofs.Below.{Below, IsOf, MadeChain, MadeElement, MadeOthers, MadeSet, by_subject, fewer, floor_before}
 use Rattle.asn_instance.proofs.Forms.{alike_blind, codes_blind, named_blind}
-use Rattle.asn_instance.proofs.Holding.{Holds, once_holds, then_holds}
+use Rattle.asn_instance.proofs.Holding.{Holds, once_holds, rolled, then_holds}
 use Rattle.asn_instance.proofs.Pairs.{answers_refined, beside_known, character_settled, lifted_known, number_known, number_sets_known, paired_known, paired_refined, parent_end_known, same_known, unless_known, whole_settled}
 use Rattle.asn_tree.specs.declared.types.ASN1Type.TheVariants as type_of_kind
-
--- ---- what a result is made of
-
-pub rolled : {A B : Type 0} (roll : A → B) (out : B → A) → ((l : A) → out (roll l) ≡ l) → (a : Option A) (P : A → Type 0) (x : B) → Holds a P → once None a (λ l. Some (roll l)) ≡ Some x → P (out x)
-rolled roll out same None P x p e = absurd cc
-rolled roll out same (Some l) P x p e =
-    let q : roll l ≡ x = cc in
-    subst (λ z. P (out z)) q (subst P (sym (same l)) p)
 
 module _ (C : Choices) (defs : Definitions) where
   pub no_element : (floor : ℕ) (scope : Scope) (s : Subject) (e f : SubtypeElement) → (instance C defs floor zero).of_element scope s e ≡ Some f → ⊥
@@ -158,8 +150,8 @@ module _ (C : Choices) (defs others : Definitions) (j : ℕ) (way : Way) (M L : 
     numbers_kept : (l : ElementLayer) → Holds (element_instance C defs (meaning defs floor) (instance C defs floor i) scope s l) (λ r. Known way (numbers_at_element M scope p l) (numbers_at_element L Empty q r))
     numbers_kept (SubtypeElement-F.SingleValue v e) =
         once_holds (C.value (meaning defs floor) scope v (values_read s)) _ _ (λ w u. unless_known way _ _ _ _ (all_kept floor i n scope v w s p q o u) (λ e f. number_known way _ _ (value_kept floor i n scope v w s p q o u e f)))
-    numbers_kept (SubtypeElement-F.ContainedSubtype ty e) = once_holds ((instance C defs floor i).of_type true scope ty) _ _ (λ uy u. b.numbers true scope ty uy [] [] (floor, i, n, u) (floor, i, n, refl))
-    numbers_kept (SubtypeElement-F.TypeConstraint ty) = once_holds ((instance C defs floor i).of_type true scope ty) _ _ (λ uy u. b.numbers true scope ty uy [] [] (floor, i, n, u) (floor, i, n, refl))
+    numbers_kept (SubtypeElement-F.ContainedSubtype ty e) = once_holds ((instance C defs floor i).of_type true scope ty) _ _ (λ uy u. b.numbers true scope ty uy [] [] (floor, i, n, u) (inl (floor, i, n, refl)))
+    numbers_kept (SubtypeElement-F.TypeConstraint ty) = once_holds ((instance C defs floor i).of_type true scope ty) _ _ (λ uy u. b.numbers true scope ty uy [] [] (floor, i, n, u) (inl (floor, i, n, refl)))
     numbers_kept (SubtypeElement-F.ValueRange low high low_open high_open e) = range_kept low high low_open high_open _ e (λ l h w u. lifted_known way in_both _ _ _ _ w u)
     numbers_kept (SubtypeElement-F.PermittedAlphabet set) = once_holds ((instance C defs floor i).of_set scope OnCharacters set) _ _ (λ x u. same_known way (Some no_number))
     numbers_kept (SubtypeElement-F.SizeConstraint set) = once_holds ((instance C defs floor i).of_set scope (OnValues (integer_named None)) set) _ _ (λ x u. same_known way (Some no_number))

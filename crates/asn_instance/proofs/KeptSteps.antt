@@ -1,5 +1,5 @@
 -- One step more keeps what is kept.
-use Rattle.std.proofs.Common.{Bool, List, None, Option, Some, [], ap, false, inl, inr, refl, subst, sym, ℕ, ◌++◌, ◌+◌, ◌∙◌, ◌∷◌, ◌≡◌}
+use Rattle.std.proofs.Common.{Bool, List, None, Option, Some, [], ap, false, inl, inr, refl, true, subst, sym, ℕ, ◌++◌, ◌+◌, ◌∙◌, ◌∷◌, ◌≡◌}
 use Rattle.asn_tree.specs.declared.constraints.Constraint.{Constraint}
 use Rattle.asn_tree.specs.declared.constraints.ElementOrSetOperation.{ElementOrSetOperation, ElementOrSetOperation-F, out-ElementOrSetOperation}
 use Rattle.asn_tree.specs.declared.constraints.SetOperation.{out-SetOperation, out-roll-SetOperation}
@@ -20,16 +20,17 @@ use Rattle.asn_meaning.specs.ValueTrees.{ValueTree}
 use Rattle.asn_meaning.proofs.Answering.{both_through}
 use Rattle.asn_meaning.proofs.Ways.{all_hold_append, narrowed_append}
 use Rattle.asn_instance.specs.Heads.{Alike, Before, KindForm, constraints_made}
-use Rattle.asn_instance.specs.Instance.{instance, operation_instance, set_instance}
+use Rattle.asn_instance.specs.Instance.{has_no_place, instance, operation_instance, set_instance}
 use Rattle.asn_instance.specs.Subjects.{Choices, Subject}
 use Rattle.asn_instance.specs.Ways.{Back, Forth, Known, Refined, Way}
 use Rattle.asn_instance.proofs.Below.{Below, Constrained, First, Instanced, Led, MadeChain, MadeSet, accepts_upto, floor_before, numbers_upto}
-use Rattle.asn_instance.proofs.Forms.{Beside, Followed, Owns, alike_blind, beside_through, form_beside, lead_beside, lists_append, numbers_blind, own, same_beside}
+use Rattle.asn_instance.proofs.Falling.{FreeHeads, falls, leads_free}
+use Rattle.asn_instance.proofs.Forms.{Beside, Followed, Owns, alike_blind, beside_through, fallen, form_beside, lead_beside, lists_append, numbers_blind, own, same_beside}
 use Rattle.asn_instance.proofs.Holding.{Holds, once_holds, result_holds}
 use Rattle.asn_instance.proofs.KeptConstraints.{both_kept, both_numbers, unlisted}
 use Rattle.asn_instance.proofs.KeptHeads.{head_kept}
 use Rattle.asn_instance.proofs.KeptSets.{set_made}
-use Rattle.asn_instance.proofs.KeptTypes.{BothLed, Made, Replaced, Stayed, View, numbers_lists, upto_lists}
+use Rattle.asn_instance.proofs.KeptTypes.{BothLed, Fallen, Made, Replaced, Stayed, View, numbers_lists, upto_lists}
 use Rattle.asn_instance.proofs.Pairs.{Paired, both_paired, both_refined, equal_known, known_paired, nothing_paired, same_known, same_refined, then_paired}
 
 append_through : {A : Type 0} (b c d : List A) → (b ++ c) ++ d ≡ b ++ (c ++ d)
@@ -85,6 +86,16 @@ module _ (C : Choices) (defs others : Definitions) (j : ℕ) (way : Way) (M L : 
         let f : lists_in fs ≡ [] = result_holds (constraints_made C defs floor i scope p (own (out-ASN1Type ty))) (λ ds. lists_in ds ≡ []) fs (unlisted C defs floor i scope p (own (out-ASN1Type ty))) w in
         beside_through (out-ASN1Type vy) (out-ASN1Type uy) (out-ASN1Type ry) (fw.beside (lists_append es fs f ∙ e)) s
 
+    -- what takes the place of a name, where it has no place for constraints
+    beside_fallen : (vy : ASN1Type) → out-ASN1Type uy ≡ out-ASN1Type vy → Beside (out-ASN1Type vy) (out-ASN1Type ry)
+    beside_fallen vy same = subst (λ z. Beside z (out-ASN1Type ry)) same s
+
+    followed_fallen : (vy : ASN1Type) → has_no_place (out-ASN1Type vy) ≡ true → out-ASN1Type uy ≡ out-ASN1Type vy → Followed (out-ASN1Type vy) [] (out-ASN1Type uy)
+    followed_fallen vy e same = subst (λ z. Followed (out-ASN1Type vy) [] z) (sym same) (fallen (out-ASN1Type vy) e)
+
+    target_free : (x : Target) (vy : ASN1Type) → (instance C defs floor i).of_type down x.place.scope x.place.ty ≡ Some vy → has_no_place (out-ASN1Type vy) ≡ true → FreeHeads defs x.place
+    target_free x vy u e = falls C defs floor i down x.place.scope x.place.ty vy u e
+
     -- ---- heads
 
     lead_heads : (u v : Lead) → lead defs M p ≡ u → lead others L r ≡ v → FoundHeads (head_from M p u) (head_from L r v) → FoundHeads (head_at defs M p) (head_at others L r)
@@ -107,6 +118,8 @@ module _ (C : Choices) (defs others : Definitions) (j : ℕ) (way : Way) (M L : 
     type_head (Stayed y is asked d c both f g ds e o) = lead_heads (leading d) (leading c) (f M) (lead_same (leading c) g) (leading_heads d c both)
     type_head (Replaced x l vy u es v fs w fw) =
         by_led way (λ way a. Paired way (λ h k. Alike C defs others j h k) (head_from M p a) (head_at others L r)) (lead defs M p) x (b.led floor (floor_before C defs j floor i n) p x l) tt (first.head down x.place.scope x.place.ty vy ry u (beside_made x vy es fs v w fw))
+    type_head (Fallen x l vy u e same) =
+        by_led way (λ way a. Paired way (λ h k. Alike C defs others j h k) (head_from M p a) (head_at others L r)) (lead defs M p) x (b.led floor (floor_before C defs j floor i n) p x l) tt (first.head down x.place.scope x.place.ty vy ry u (beside_fallen vy same))
 
     -- ---- whole numbers and answers
 
@@ -116,7 +129,7 @@ module _ (C : Choices) (defs others : Definitions) (j : ℕ) (way : Way) (M L : 
     leading_stands None c (inr e) t = subst (λ z. Refined way Unknown (stands_for L t r (leading z))) (sym e) (same_refined way Unknown)
     leading_stands (Some x) c (inr (vy, wy, e, f, (floor, i, n, u))) t =
         subst (λ z. Refined way (M.accepts z.place z.constraints t) (stands_for L t r (leading c))) (sym e)
-        (subst (λ z. Refined way (M.accepts (place Empty vy) [] t) (stands_for L t r (leading z))) (sym f) (b.accepts false Empty vy wy [] [] t (floor, i, n, u) (floor, i, n, refl)))
+        (subst (λ z. Refined way (M.accepts (place Empty vy) [] t) (stands_for L t r (leading z))) (sym f) (b.accepts false Empty vy wy [] [] t (floor, i, n, u) (inl (floor, i, n, refl))))
 
     leading_numbers : (d c : Option Target) → BothLed C defs others j d c → Known way (numbers_from_lead M p (leading d)) (numbers_from_lead L r (leading c))
     leading_numbers None c (inl (same, e)) = subst (λ z. Known way None (numbers_from_lead L r (leading z))) (sym e) (same_known way None)
@@ -124,7 +137,7 @@ module _ (C : Choices) (defs others : Definitions) (j : ℕ) (way : Way) (M L : 
     leading_numbers None c (inr e) = subst (λ z. Known way None (numbers_from_lead L r (leading z))) (sym e) (same_known way None)
     leading_numbers (Some x) c (inr (vy, wy, e, f, (floor, i, n, u))) =
         subst (λ z. Known way (M.numbers z.place z.constraints) (numbers_from_lead L r (leading c))) (sym e)
-        (subst (λ z. Known way (M.numbers (place Empty vy) []) (numbers_from_lead L r (leading z))) (sym f) (b.numbers false Empty vy wy [] [] (floor, i, n, u) (floor, i, n, refl)))
+        (subst (λ z. Known way (M.numbers (place Empty vy) []) (numbers_from_lead L r (leading z))) (sym f) (b.numbers false Empty vy wy [] [] (floor, i, n, u) (inl (floor, i, n, refl))))
 
     lead_numbers : (u v : Lead) → lead defs M p ≡ u → lead others L r ≡ v → Known way (numbers_from_lead M p u) (numbers_from_lead L r v) → Known way (numbers_before defs M p) (numbers_before others L r)
     lead_numbers u v e f h = subst (λ z. Known way (numbers_from_lead M p z) (numbers_before others L r)) (sym e) (subst (λ z. Known way (numbers_from_lead M p u) (numbers_from_lead L r z)) (sym f) h)
@@ -146,24 +159,24 @@ module _ (C : Choices) (defs others : Definitions) (j : ℕ) (way : Way) (M L : 
           Refined way (stands_for M t p (lead defs M p)) (stands_for L t r (lead others L r)) → Refined way (accepts_at defs M p cs t) (accepts_upto others L r (own (out-ASN1Type uy) ++ ds) t)
       own_accepts t es e o w h =
           subst (λ z. Refined way (accepts_at defs M p cs t) z) (upto_lists C defs others j way M L b (out-ASN1Type uy) ry es ds t s o)
-          (both_refined way _ _ _ _ h (both_kept C defs others j way M L b scope p r (own (out-ASN1Type ty)) es cs ds (numbers_before defs M p) (λ k. numbers_before others L r) found (floor, i, n, e) m (λ k f. w) t))
+          (both_refined way _ _ _ _ h (both_kept C defs others j way M L b scope p r (own (out-ASN1Type ty)) es cs ds (numbers_before defs M p) (λ k. numbers_before others L r) found (inl (floor, i, n, e)) m (λ k f. w) t))
 
       own_numbers : (es : List Constraint) → constraints_made C defs floor i scope p (own (out-ASN1Type ty)) ≡ Some es → Owns (out-ASN1Type uy) es → Known way (numbers_before defs M p) (numbers_before others L r) →
           Known way (numbers_at defs M p cs) (numbers_upto others L r (own (out-ASN1Type uy) ++ ds))
       own_numbers es e o w =
           subst (λ z. Known way (numbers_at defs M p cs) z) (numbers_lists C defs others j way M L b (out-ASN1Type uy) ry es ds s o)
-          (both_numbers C defs others j way M L b scope p r (own (out-ASN1Type ty)) es cs ds (numbers_before defs M p) (λ k. numbers_before others L r) found (floor, i, n, e) m (λ k f. w))
+          (both_numbers C defs others j way M L b scope p r (own (out-ASN1Type ty)) es cs ds (numbers_before defs M p) (λ k. numbers_before others L r) found (inl (floor, i, n, e)) m (λ k f. w))
 
-      module _ (x : Target) (l : lead defs (meaning defs floor) p ≡ LeadsTo x) (vy : ASN1Type) (u : (instance C defs floor i).of_type down x.place.scope x.place.ty ≡ Some vy) (es : List Constraint) (v : constraints_made C defs floor i x.place.scope x.place x.constraints ≡ Some es)
-          (fs : List Constraint) (w : constraints_made C defs floor i scope p (own (out-ASN1Type ty)) ≡ Some fs) (fw : Followed (out-ASN1Type vy) (es ++ fs) (out-ASN1Type uy)) where
+      module _ (x : Target) (l : lead defs (meaning defs floor) p ≡ LeadsTo x) (vy : ASN1Type) (u : (instance C defs floor i).of_type down x.place.scope x.place.ty ≡ Some vy) (es : List Constraint) (v : Constrained C defs j x.place.scope x.place x.constraints es)
+          (fs : List Constraint) (w : Constrained C defs j scope p (own (out-ASN1Type ty)) fs) (fw : Followed (out-ASN1Type vy) (es ++ fs) (out-ASN1Type uy)) (bs : Beside (out-ASN1Type vy) (out-ASN1Type ry)) where
         abbrev firsts : List Constraint
         firsts = own (out-ASN1Type vy) ++ es
 
         first_numbers : Known way (numbers_before defs M p) (numbers_upto others L r firsts)
-        first_numbers = by_led way (λ way a. Known way (numbers_from_lead M p a) (numbers_upto others L r firsts)) (lead defs M p) x (b.led floor (floor_before C defs j floor i n) p x l) tt (first.numbers down x.place.scope x.place.ty vy ry x.constraints es u (beside_made x vy es fs v w fw) (floor, i, n, v))
+        first_numbers = by_led way (λ way a. Known way (numbers_from_lead M p a) (numbers_upto others L r firsts)) (lead defs M p) x (b.led floor (floor_before C defs j floor i n) p x l) tt (first.numbers down x.place.scope x.place.ty vy ry x.constraints es u bs v)
 
         first_accepts : (t : ValueTree) → Refined way (stands_for M t p (lead defs M p)) (accepts_upto others L r firsts t)
-        first_accepts t = by_led way (λ way a. Refined way (stands_for M t p a) (accepts_upto others L r firsts t)) (lead defs M p) x (b.led floor (floor_before C defs j floor i n) p x l) tt (first.accepts down x.place.scope x.place.ty vy ry x.constraints es t u (beside_made x vy es fs v w fw) (floor, i, n, v))
+        first_accepts t = by_led way (λ way a. Refined way (stands_for M t p a) (accepts_upto others L r firsts t)) (lead defs M p) x (b.led floor (floor_before C defs j floor i n) p x l) tt (first.accepts down x.place.scope x.place.ty vy ry x.constraints es t u bs v)
 
         under : (k : Place) → L.head r ≡ Some k → Known way (numbers_before defs M p) (narrowed_by_all L Empty k (numbers_before others L r) firsts)
         under k e = subst (λ z. Known way (numbers_before defs M p) (once None z (λ k. narrowed_by_all L Empty k (numbers_before others L r) firsts))) e first_numbers
@@ -174,24 +187,26 @@ module _ (C : Choices) (defs others : Definitions) (j : ℕ) (way : Way) (M L : 
             (subst (λ z. Refined way (accepts_at defs M p cs t) (accepts_upto others L r z t)) (sym (regroup (own (out-ASN1Type vy)) es fs ds))
             (subst (λ z. Refined way (accepts_at defs M p cs t) z) (sym (upto_split r firsts (fs ++ ds) t))
             (both_refined way _ _ _ _ (first_accepts t)
-            (both_kept C defs others j way M L b scope p r (own (out-ASN1Type ty)) fs cs ds (numbers_before defs M p) (λ k. narrowed_by_all L Empty k (numbers_before others L r) firsts) found (floor, i, n, w) m under t))))
+            (both_kept C defs others j way M L b scope p r (own (out-ASN1Type ty)) fs cs ds (numbers_before defs M p) (λ k. narrowed_by_all L Empty k (numbers_before others L r) firsts) found w m under t))))
 
         replaced_numbers : Known way (numbers_at defs M p cs) (numbers_upto others L r (own (out-ASN1Type uy) ++ ds))
         replaced_numbers =
             subst (λ z. Known way (numbers_at defs M p cs) z) (numbers_lists C defs others j way M L b (out-ASN1Type uy) ry (own (out-ASN1Type vy) ++ (es ++ fs)) ds s fw.owns)
             (subst (λ z. Known way (numbers_at defs M p cs) (numbers_upto others L r z)) (sym (regroup (own (out-ASN1Type vy)) es fs ds))
             (subst (λ z. Known way (numbers_at defs M p cs) z) (sym (numbers_split r firsts (fs ++ ds)))
-            (both_numbers C defs others j way M L b scope p r (own (out-ASN1Type ty)) fs cs ds (numbers_before defs M p) (λ k. narrowed_by_all L Empty k (numbers_before others L r) firsts) found (floor, i, n, w) m under)))
+            (both_numbers C defs others j way M L b scope p r (own (out-ASN1Type ty)) fs cs ds (numbers_before defs M p) (λ k. narrowed_by_all L Empty k (numbers_before others L r) firsts) found w m under)))
 
       pub made_accepts : (t : ValueTree) → View C defs others j floor i down scope ty (out-ASN1Type ty) (out-ASN1Type uy) → Refined way (accepts_at defs M p cs t) (accepts_upto others L r (own (out-ASN1Type uy) ++ ds) t)
       made_accepts t (Made f g form es e o) = own_accepts t es e o (head_numbers form f g) (lead_stands t IsHead IsHead (f M) (lead_same IsHead g) (head_kept C defs others j way M L b p r (alike form) t))
       made_accepts t (Stayed y is asked d c both f g es e o) = own_accepts t es e o (stayed_numbers d c both f g) (lead_stands t (leading d) (leading c) (f M) (lead_same (leading c) g) (leading_stands d c both t))
-      made_accepts t (Replaced x l vy u es v fs w fw) = replaced_accepts x l vy u es v fs w fw t
+      made_accepts t (Replaced x l vy u es v fs w fw) = replaced_accepts x l vy u es (inl (floor, i, n, v)) fs (inl (floor, i, n, w)) fw (beside_made x vy es fs v w fw) t
+      made_accepts t (Fallen x l vy u e same) = replaced_accepts x l vy u [] (inr (refl, target_free x vy u e)) [] (inr (refl, leads_free defs floor p x l (target_free x vy u e))) (followed_fallen vy e same) (beside_fallen vy same) t
 
       pub made_numbers : View C defs others j floor i down scope ty (out-ASN1Type ty) (out-ASN1Type uy) → Known way (numbers_at defs M p cs) (numbers_upto others L r (own (out-ASN1Type uy) ++ ds))
       made_numbers (Made f g form es e o) = own_numbers es e o (head_numbers form f g)
       made_numbers (Stayed y is asked d c both f g es e o) = own_numbers es e o (stayed_numbers d c both f g)
-      made_numbers (Replaced x l vy u es v fs w fw) = replaced_numbers x l vy u es v fs w fw
+      made_numbers (Replaced x l vy u es v fs w fw) = replaced_numbers x l vy u es (inl (floor, i, n, v)) fs (inl (floor, i, n, w)) fw (beside_made x vy es fs v w fw)
+      made_numbers (Fallen x l vy u e same) = replaced_numbers x l vy u [] (inr (refl, target_free x vy u e)) [] (inr (refl, leads_free defs floor p x l (target_free x vy u e))) (followed_fallen vy e same) (beside_fallen vy same)
 
   -- ---- chains
 

@@ -1,5 +1,5 @@
 -- Types are kept: what a type is, and what its instance is, one step further.
-use Rattle.std.proofs.Common.{Bool, List, None, Option, Some, [], ap, false, inl, inr, not, refl, subst, suc, sym, true, zero, ℕ, ◌&&◌, ◌++◌, ◌∙◌, ◌∷◌, ◌≡◌, ◌⊎◌}
+use Rattle.std.proofs.Common.{Bool, List, None, Option, Some, [], ap, false, inl, inr, not, refl, subst, suc, sym, true, ℕ, ◌&&◌, ◌++◌, ◌∙◌, ◌∷◌, ◌≡◌, ◌⊎◌}
 use Rattle.std.specs.Prelude.{if◌then◌else◌, is_none, is_some}
 use Rattle.asn_tree.specs.declared.constraints.Constraint.{Constraint}
 use Rattle.asn_tree.specs.declared.definitions.Parameterization.{Parameterization}
@@ -20,23 +20,22 @@ use Rattle.asn_meaning.specs.Kinds.{ChoiceKind, ListKind, ReferenceKind, StructK
 use Rattle.asn_meaning.specs.Layers.{ClassFieldLayer, ListLayer, ReferenceLayer, StructLayer, TypeLayer}
 use Rattle.asn_meaning.specs.Meaning.{Meaning, Member}
 use Rattle.asn_meaning.specs.Members.{is_addition_at}
-use Rattle.asn_meaning.specs.Names.{FieldType, Fixed, IsHead, IsLost, Lead, LeadsTo, Open, class_field_type, field_lead, field_target, lead, lead_at, leading, lists_in, marked, name_target, reference_of, reference_target, selection_target, type_of_field}
+use Rattle.asn_meaning.specs.Names.{FieldType, Fixed, IsHead, LeadsTo, Open, class_field_type, field_lead, field_target, lead, lead_at, leading, lists_in, marked, name_target, reference_of, reference_target, selection_target, type_of_field}
 use Rattle.asn_meaning.specs.Objects.{given}
 use Rattle.asn_meaning.specs.Ranges.{is_free, is_free_kind, narrowed_by_all, numbers_before}
 use Rattle.asn_meaning.specs.Scopes.{Empty, Place, Scope, Target, bare, bound_to}
 use Rattle.asn_meaning.specs.ValueTrees.{ValueTree, same_truth}
-use Rattle.asn_meaning.proofs.More.{Leads}
 use Rattle.asn_calls.specs.Types.{with_constraints_at}
 use Rattle.asn_instance.specs.Heads.{KindForm, MadeMembers, MadeOptions, MadeStruct, constraints_made}
-use Rattle.asn_instance.specs.Instance.{constrained, field_instance, followed_by, instance, is_empty, list_instance, member_instance, no_instance, of_members, of_options, option_instance, replaced, risen, stays, stays_at, struct_instance, type_instance}
+use Rattle.asn_instance.specs.Instance.{constrained, extended, field_instance, followed_by, has_no_place, instance, is_empty, list_instance, member_instance, of_members, of_options, option_instance, replaced, risen, stays, stays_at, struct_instance, type_instance}
 use Rattle.asn_instance.specs.Linked.{LinkedTarget, SameOrLinked, plain_target}
 use Rattle.asn_instance.specs.Subjects.{Choices}
 use Rattle.asn_instance.specs.Ways.{Way}
 use Rattle.asn_instance.proofs.Below.{Below, accepts_upto, numbers_upto}
+use Rattle.asn_instance.proofs.Falling.{type_unfolds}
 use Rattle.asn_instance.proofs.Forms.{Beside, Followed, Owns, blind_beside, followed, free_blind, lead_beside, own}
-use Rattle.asn_instance.proofs.Holding.{Holds, once_holds, then_holds, weaker}
+use Rattle.asn_instance.proofs.Holding.{Holds, once_holds, rolled, then_holds, weaker}
 use Rattle.asn_instance.proofs.KeptConstraints.{free_all, free_numbers, unlisted}
-use Rattle.asn_instance.proofs.KeptSets.{rolled}
 use Rattle.asn_meaning.specs.Names as names
 
 none_some : {A : Type 0} (a : Option A) → is_none a ≡ true → is_some a ≡ false
@@ -115,6 +114,9 @@ module _ (C : Choices) (defs others : Definitions) (j : ℕ) where
     Replaced : (x : Target) → lead_at defs (meaning defs floor) scope (kind_at l) ≡ LeadsTo x → (uy : ASN1Type) → (instance C defs floor i).of_type down x.place.scope x.place.ty ≡ Some uy →
         (es : List Constraint) → constraints_made C defs floor i x.place.scope x.place x.constraints ≡ Some es → (ds : List Constraint) → constraints_made C defs floor i scope (place scope ty) (own l) ≡ Some ds →
         Followed (out-ASN1Type uy) (es ++ ds) r → View floor i down scope ty l r
+    -- one where this has no place for constraints
+    Fallen : (x : Target) → lead_at defs (meaning defs floor) scope (kind_at l) ≡ LeadsTo x → (uy : ASN1Type) → (instance C defs floor i).of_type down x.place.scope x.place.ty ≡ Some uy →
+        has_no_place (out-ASN1Type uy) ≡ true → r ≡ out-ASN1Type uy → View floor i down scope ty l r
 
   module _ (linked : SameOrLinked C defs others j) (floor i : ℕ) (down : Bool) (scope : Scope) (ty : ASN1Type) where
     -- a head without parts
@@ -161,9 +163,13 @@ module _ (C : Choices) (defs others : Definitions) (j : ℕ) where
     replaced_view : (l : TypeLayer) (d : Option Target) → lead_at defs (meaning defs floor) scope (kind_at l) ≡ leading d → Holds (replaced C defs (meaning defs floor) (instance C defs floor i) down scope ty (own l) d) (View floor i down scope ty l)
     replaced_view l None e = tt
     replaced_view l (Some x) e =
-        once_holds ((instance C defs floor i).of_type down x.place.scope x.place.ty) _ _ (λ uy u. once_holds (constraints_made C defs floor i x.place.scope x.place x.constraints) _ _ (λ es v.
-        once_holds (constraints_made C defs floor i scope (place scope ty) (own l)) _ _ (λ ds w.
-        weaker (followed_by (out-ASN1Type uy) (es ++ ds)) (Followed (out-ASN1Type uy) (es ++ ds)) _ (followed (out-ASN1Type uy) (es ++ ds)) (λ r f. Replaced x e uy u es v ds w f))))
+        once_holds ((instance C defs floor i).of_type down x.place.scope x.place.ty) _ _ (λ uy u. at uy u (has_no_place (out-ASN1Type uy)) refl)
+      where
+        at : (uy : ASN1Type) → (instance C defs floor i).of_type down x.place.scope x.place.ty ≡ Some uy → (c : Bool) → has_no_place (out-ASN1Type uy) ≡ c →
+            Holds (extended C defs (meaning defs floor) (instance C defs floor i) scope ty (own l) x (out-ASN1Type uy) c) (View floor i down scope ty l)
+        at uy u true f = Fallen x e uy u f refl
+        at uy u false f = once_holds (constraints_made C defs floor i x.place.scope x.place x.constraints) _ _ (λ es v. once_holds (constraints_made C defs floor i scope (place scope ty) (own l)) _ _ (λ ds w.
+            weaker (followed_by (out-ASN1Type uy) (es ++ ds)) (Followed (out-ASN1Type uy) (es ++ ds)) _ (followed (out-ASN1Type uy) (es ++ ds)) (λ r g. Replaced x e uy u es v ds w g)))
 
     -- a name that stays leads to the same, or to the instance
     both_led : (linked : SameOrLinked C defs others j) (x : ReferenceLayer) (ds : List Constraint) → lists_in ds ≡ [] → (o : Option (List ℕ)) → stays_at C down scope x o ≡ true →
@@ -220,27 +226,8 @@ module _ (C : Choices) (defs others : Definitions) (j : ℕ) where
 
   -- ---- one step
 
-  pub no_type : (floor : ℕ) (down : Bool) (scope : Scope) (ty uy : ASN1Type) → (instance C defs floor zero).of_type down scope ty ≡ Some uy → ⊥
-  unfolding instance no_instance
-  no_type floor down scope ty uy p = cc
-
-  type_unfolds : (floor i : ℕ) (down : Bool) (scope : Scope) (ty : ASN1Type) → (instance C defs floor (suc i)).of_type down scope ty ≡ once None (type_instance C defs (meaning defs floor) (instance C defs floor i) down scope ty (out-ASN1Type ty)) (λ l. Some (roll-ASN1Type l))
-  unfolding instance
-  type_unfolds floor i down scope ty = refl
-
   pub viewed : SameOrLinked C defs others j → (floor i : ℕ) (down : Bool) (scope : Scope) (ty uy : ASN1Type) → (instance C defs floor (suc i)).of_type down scope ty ≡ Some uy → View floor i down scope ty (out-ASN1Type ty) (out-ASN1Type uy)
-  viewed linked floor i down scope ty uy e = rolled roll-ASN1Type out-ASN1Type out-roll-ASN1Type _ (View floor i down scope ty (out-ASN1Type ty)) uy (view linked floor i down scope ty (out-ASN1Type ty)) (sym (type_unfolds floor i down scope ty) ∙ e)
-
--- ---- leads
-
--- what is known to lead on later is lost or leads on there now
-pub leads_back : (a c : Lead) (x : Target) → Leads a c → c ≡ LeadsTo x → (a ≡ IsLost) ⊎ (a ≡ LeadsTo x)
-leads_back IsLost c x p e = inl refl
-leads_back IsHead c x p e = absurd cc
-leads_back (LeadsTo y) c x p e = inr (sym p ∙ e)
-
-pub leads_later : (a c : Lead) (x : Target) → Leads a c → a ≡ LeadsTo x → c ≡ LeadsTo x
-leads_later a c x p e = subst (λ z. Leads z c) e p
+  viewed linked floor i down scope ty uy e = rolled roll-ASN1Type out-ASN1Type out-roll-ASN1Type _ (View floor i down scope ty (out-ASN1Type ty)) uy (view linked floor i down scope ty (out-ASN1Type ty)) (sym (type_unfolds C defs floor i down scope ty) ∙ e)
 
 -- ---- constraints that a layer owns, or that nobody asks
 

@@ -1,6 +1,7 @@
 pub mod Holding
 pub mod Pairs
 pub mod Forms
+pub mod Falling
 pub mod Below
 pub mod KeptSets
 pub mod KeptConstraints
@@ -22,3 +23,4 @@ pub mod LiteralsPlain
 pub mod StayingNames
 pub mod FewerNames
 pub mod FewerTypes
+pub mod Closed

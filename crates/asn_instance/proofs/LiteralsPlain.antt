@@ -22,10 +22,10 @@ use Rattle.asn_meaning.specs.Written.{AllWritten, BitNamesWritten, BitsWritten, 
 use Rattle.asn_instance.specs.Literals.{is_literal, is_own_head, literals, single_written, value_written}
 use Rattle.asn_instance.specs.Plain.{Eventually, PutOn, StandsAsHead, WritesPlain}
 use Rattle.asn_instance.specs.Subjects.{OnCharacters, OnValues, Subject, ends_read, values_read}
+use Rattle.asn_instance.proofs.Falling.{step_heads}
 use Rattle.asn_instance.proofs.Eventually.{always, later}
 use Rattle.asn_instance.proofs.Forms.{Blind, alike_blind}
 use Rattle.asn_instance.proofs.Holding.{result_holds}
-use Rattle.asn_instance.proofs.Kept.{step_heads}
 use Rattle.asn_instance.proofs.Literals.{Chosen, Means, all_or_is, chosen}
 
 -- ---- literals hold no name

@@ -28,7 +28,7 @@ use Rattle.asn_meaning.specs.ValueTrees.{same_truth}
 use Rattle.asn_meaning.proofs.Answering.{given_within, if_within, once_within, same_within}
 use Rattle.asn_meaning.proofs.More.{More}
 use Rattle.asn_meaning.proofs.Steps.{more_known, one_more}
-use Rattle.asn_instance.specs.Instance.{Instances, component_instance, constrained, constraint_instance, element_instance, field_instance, first_tag, inner_instance, instance, instance_at, list_instance, listed_instance, member_instance, no_instance, of_constraints, of_members, of_options, operation_instance, option_instance, own_tag, part_named, placed_tag, replaced, set_instance, stays, struct_instance, tag_instance, type_instance}
+use Rattle.asn_instance.specs.Instance.{Instances, component_instance, constrained, constraint_instance, element_instance, extended, field_instance, first_tag, has_no_place, inner_instance, instance, instance_at, list_instance, listed_instance, member_instance, no_instance, of_constraints, of_members, of_options, operation_instance, option_instance, own_tag, part_named, placed_tag, replaced, set_instance, stays, struct_instance, tag_instance, type_instance}
 use Rattle.asn_instance.specs.Steady.{ChosenAgain, FoundAgain, Steady}
 use Rattle.asn_instance.specs.Subjects.{Choices, OnCharacters, OnValues, Subject, gathered, perhaps, traversed}
 
@@ -159,10 +159,14 @@ module _ (C : Choices) (defs : Definitions) (M N : Meaning) (I J : Instances) (m
   constrained_again : (scope : Scope) (ty : ASN1Type) (l : TypeLayer) → Within (constrained C defs M I scope ty l) (constrained C defs N J scope ty l)
   constrained_again scope ty l = once_within _ _ _ _ (constraints_again scope (place scope ty) (listed (constraints_at l))) (λ cs. refl)
 
+  extended_again : (scope : Scope) (ty : ASN1Type) (beside : List Constraint) (x : Target) (l : TypeLayer) (c : Bool) → Within (extended C defs M I scope ty beside x l c) (extended C defs N J scope ty beside x l c)
+  extended_again scope ty beside x l true = refl
+  extended_again scope ty beside x l false =
+      once_within _ _ _ _ (constraints_again x.place.scope x.place x.constraints) (λ es. once_within _ _ _ _ (constraints_again scope (place scope ty) beside) (λ ds. same_within _))
+
   replaced_again : (down : Bool) (scope : Scope) (ty : ASN1Type) (beside : List Constraint) (a b : Option Target) → Within a b → Within (replaced C defs M I down scope ty beside a) (replaced C defs N J down scope ty beside b)
   replaced_again down scope ty beside a b p =
-      once_within _ _ _ _ p (λ x. once_within _ _ _ _ (f.of_type down x.place.scope x.place.ty) (λ uy.
-      once_within _ _ _ _ (constraints_again x.place.scope x.place x.constraints) (λ es. once_within _ _ _ _ (constraints_again scope (place scope ty) beside) (λ ds. same_within _))))
+      once_within _ _ _ _ p (λ x. once_within _ _ _ _ (f.of_type down x.place.scope x.place.ty) (λ uy. extended_again scope ty beside x (out-ASN1Type uy) (has_no_place (out-ASN1Type uy))))
 
   field_again : (down : Bool) (scope : Scope) (ty : ASN1Type) (x : ClassFieldLayer) (d : Option FieldType) → Within (field_instance C defs M I down scope ty x d) (field_instance C defs N J down scope ty x d)
   field_again down scope ty x None = tt

@@ -25,12 +25,12 @@ use Rattle.asn_instance.specs.Linked.{SameOrLinked}
 use Rattle.asn_instance.specs.Plain.{Eventually, PutOn, StandsAsHead}
 use Rattle.asn_instance.specs.Subjects.{Choices, OnValues, Subject}
 use Rattle.asn_instance.specs.Ways.{Forth}
+use Rattle.asn_instance.proofs.Falling.{leads_later}
 use Rattle.asn_instance.proofs.Eventually.{all_append, always, and_true, found_stands, head_stays, joined, later, mapped, within_is}
 use Rattle.asn_instance.proofs.Forms.{own}
 use Rattle.asn_instance.proofs.Holding.{Holds, once_holds, then_holds}
 use Rattle.asn_instance.proofs.Kept.{below_forth}
 use Rattle.asn_instance.proofs.KeptParts.{Stands, stands_head}
-use Rattle.asn_instance.proofs.KeptTypes.{leads_later}
 use Rattle.asn_instance.proofs.Pairs.{Paired}
 
 pub paired_at : {A B : Type 0} (R : A → B → Type 0) (a : Option A) (b : Option B) (x : A) → Paired Forth R a b → a ≡ Some x → (y : B) × (b ≡ Some y) × R x y

@@ -25,11 +25,12 @@ use Rattle.asn_instance.specs.Plain.{Eventually, WritesPlain}
 use Rattle.asn_instance.specs.Subjects.{Choices, perhaps}
 use Rattle.asn_instance.proofs.Below.{fewer}
 use Rattle.asn_instance.proofs.Eventually.{always, and_true, joined, mapped}
-use Rattle.asn_instance.proofs.Forms.{Beside, Owns, own, lists_append}
+use Rattle.asn_instance.proofs.Falling.{no_type}
+use Rattle.asn_instance.proofs.Forms.{Beside, Owns, lists_append, own, own_fallen, same_beside}
 use Rattle.asn_instance.proofs.Holding.{Holds, once_holds, result_holds}
 use Rattle.asn_instance.proofs.KeptConstraints.{unlisted}
 use Rattle.asn_instance.proofs.KeptSets.{no_element, no_set}
-use Rattle.asn_instance.proofs.KeptTypes.{Made, Replaced, Stayed, View, no_type, viewed}
+use Rattle.asn_instance.proofs.KeptTypes.{Fallen, Made, Replaced, Stayed, View, viewed}
 use Rattle.asn_instance.proofs.PlainElements.{element_next, set_next}
 use Rattle.asn_instance.proofs.PlainParts.{PlacedPlain, PlainLevel, PlainType, TypePlain, constraints_placed, constraints_stand, placed_before, placed_joined, type_stands}
 
@@ -163,6 +164,14 @@ module _ (C : Choices) (defs others : Definitions) (k : ℕ) (linked : SameOrLin
               (placed scope (place scope ty) (own (out-ASN1Type ty)) ds w)));
           unnamed = λ d. name_beside (out-ASN1Type vy) (out-ASN1Type uy) s ∙ r.unnamed d;
         }
+    view_plain down scope ty uy (Fallen x l vy u e same) =
+        let r = below.of_type down x.place.scope x.place.ty vy u in
+        let s : Beside (out-ASN1Type vy) (out-ASN1Type uy) = subst (λ z. Beside (out-ASN1Type vy) z) (sym same) (same_beside (out-ASN1Type vy)) in
+        record {
+          parts = mapped (λ m u. parts_beside others (meaning others m) (plainness others m) (out-ASN1Type vy) (out-ASN1Type uy) s ∙ u) r.parts;
+          own_plain = inl (ap own same ∙ own_fallen (out-ASN1Type vy) e);
+          unnamed = λ d. name_beside (out-ASN1Type vy) (out-ASN1Type uy) s ∙ r.unnamed d;
+        }
 
     level_next : PlainLevel C defs others k linked values floor (suc i)
     level_next = record {
@@ -173,7 +182,7 @@ module _ (C : Choices) (defs others : Definitions) (k : ℕ) (linked : SameOrLin
 
   level : (floor i : ℕ) → Before C defs (suc k) (floor + i) → PlainLevel C defs others k linked values floor i
   level floor zero before = record {
-    of_type = λ down scope ty uy e. absurd (no_type C defs others (suc k) floor down scope ty uy e);
+    of_type = λ down scope ty uy e. absurd (no_type C defs floor down scope ty uy e);
     of_set = λ scope s x y e q put stands. absurd (no_set C defs floor scope s x y e);
     of_element = λ scope s e f u q put stands. absurd (no_element C defs floor scope s e f u);
   }

@@ -15,10 +15,10 @@ use Rattle.asn_meaning.specs.Kinds.{kind_at}
 use Rattle.asn_meaning.specs.Layers.{ElementLayer, ListedLayer, SetLayer, TypeLayer}
 use Rattle.asn_meaning.specs.Placed.{listed}
 use Rattle.asn_calls.specs.Types.{with_constraints_at}
-use Rattle.asn_instance.specs.Instance.{followed_by}
+use Rattle.asn_instance.specs.Instance.{followed_by, has_no_place}
 use Rattle.asn_instance.specs.Staying.{Names, NamesStay, Staying, constraints_stay, element_stays, kind_stays, layer_stays, member_stays, option_stays, set_stays, staying}
 use Rattle.asn_instance.proofs.Forms.{own}
-use Rattle.asn_instance.proofs.Holding.{Holds, weaker}
+use Rattle.asn_instance.proofs.Holding.{Holds, result_holds, result_is}
 
 -- ---- tests
 
@@ -139,7 +139,7 @@ module _ (keeps : Names) where
   followed_is _ zs = refl
 
   -- what is found of the names of a layer that constraints follow
-  pub followed_ok : (l : TypeLayer) (zs : List Constraint) (r : TypeLayer) → r ≡ with_constraints_at l (own l ++ zs) → LayerOk r → LayerOk l × ((AllOk zs) ⊎ (constraints_at l ≡ None))
+  followed_ok : (l : TypeLayer) (zs : List Constraint) (r : TypeLayer) → r ≡ with_constraints_at l (own l ++ zs) → LayerOk r → LayerOk l × ((AllOk zs) ⊎ (constraints_at l ≡ None))
   followed_ok l zs r e f = at (placed_or l) (subst (λ z. LayerOk z) e f)
     where
       joined : AllOk (own l) → LayerOk (with_constraints_at l (own l ++ zs)) → LayerOk l
@@ -151,13 +151,18 @@ module _ (keeps : Names) where
           let g = layer_all l (own l ++ zs) (same (own l ++ zs)) f in
           (joined (all_first (own l) zs g) f, inl (all_second (own l) zs g))
 
-  pub followed_names : (l : TypeLayer) (zs : List Constraint) → Holds (followed_by l zs) (λ r. LayerOk r → LayerOk l × ((AllOk zs) ⊎ (constraints_at l ≡ None)))
-  followed_names l zs = weaker (followed_by l zs) (λ r. r ≡ with_constraints_at l (own l ++ zs)) _ (followed_is l zs) (λ r e. followed_ok l zs r e)
+  -- no layer with a place for constraints lacks them, but a selection
+  lacks_none : (l : TypeLayer) (zs : List Constraint) (r : TypeLayer) → has_no_place l ≡ false → constraints_at l ≡ None → followed_by l zs ≡ Some r → ⊥
+  lacks_none ASN1Type-F.ASN1Type::Null zs r e f g = cc
+  lacks_none (ASN1Type-F.ChoiceSelectionType x) zs r e f g = cc
+  lacks_none ASN1Type-F.EmbeddedPdv zs r e f g = cc
+  lacks_none ASN1Type-F.External zs r e f g = cc
+  lacks_none _ zs r e f g = cc
 
--- where there is no place for constraints, all fall away
-pub fallen_same : (l : TypeLayer) (zs ws : List Constraint) → constraints_at l ≡ None → followed_by l zs ≡ followed_by l ws
-fallen_same ASN1Type-F.ASN1Type::Null zs ws e = refl
-fallen_same (ASN1Type-F.ChoiceSelectionType x) zs ws e = refl
-fallen_same ASN1Type-F.EmbeddedPdv zs ws e = refl
-fallen_same ASN1Type-F.External zs ws e = refl
-fallen_same _ zs ws e = absurd cc
+  pub followed_names : (l : TypeLayer) (zs : List Constraint) → has_no_place l ≡ false → Holds (followed_by l zs) (λ r. LayerOk r → LayerOk l × AllOk zs)
+  followed_names l zs e = result_is (followed_by l zs) _ (λ r g ok.
+      let k = followed_ok l zs r (result_holds (followed_by l zs) (λ r. r ≡ with_constraints_at l (own l ++ zs)) r (followed_is l zs) g) ok in (k.0, found r g k.1))
+    where
+      found : (r : TypeLayer) → followed_by l zs ≡ Some r → (AllOk zs) ⊎ (constraints_at l ≡ None) → AllOk zs
+      found r g (inl ok) = ok
+      found r g (inr none) = absurd (lacks_none l zs r e none g)

@@ -42,8 +42,14 @@ abbrev pub is_empty : {A : Type 0} → List A → Bool
 is_empty [] = true
 is_empty (x ∷ xs) = false
 
--- constraints of a place follow the type's own; those that come to NULL, EXTERNAL or EMBEDDED PDV fall away, and no
--- instance is a selection
+-- NULL, EXTERNAL and EMBEDDED PDV have no place for constraints.
+abbrev pub has_no_place : TypeLayer → Bool
+has_no_place ASN1Type-F.ASN1Type::Null = true
+has_no_place ASN1Type-F.EmbeddedPdv = true
+has_no_place ASN1Type-F.External = true
+has_no_place _ = false
+
+-- constraints of a place follow the type's own; no instance is a selection
 abbrev pub followed_by : TypeLayer → List Constraint → Option TypeLayer
 followed_by (ASN1Type-F.ChoiceSelectionType x) cs = None
 followed_by l cs = Some (with_constraints_at l (listed (constraints_at l) ++ cs))
@@ -185,12 +191,17 @@ module _ (C : Choices) (defs : Definitions) (M : Meaning) (I : Instances) where
   abbrev pub constrained : Scope → ASN1Type → TypeLayer → Option TypeLayer
   constrained scope ty l = once None (of_constraints scope (place scope ty) (listed (constraints_at l))) (λ cs. Some (with_constraints_at l cs))
 
-  -- What a name leads to, as it is in its own scope, with the constraints that come along, and those beside the name.
+  -- The constraints that come along and those beside a name follow those of the type that takes its place; where that has no
+  -- place for any, they fall away and are not read.
+  abbrev pub extended : Scope → ASN1Type → List Constraint → Target → TypeLayer → Bool → Option TypeLayer
+  extended scope ty beside x l true = Some l
+  extended scope ty beside x l false =
+      once None (of_constraints x.place.scope x.place x.constraints) (λ es. once None (of_constraints scope (place scope ty) beside) (λ ds. followed_by l (es ++ ds)))
+
+  -- What a name leads to, as it is in its own scope, with these constraints.
   abbrev pub replaced : Bool → Scope → ASN1Type → List Constraint → Option Target → Option TypeLayer
   replaced down scope ty beside target =
-      once None target (λ x. once None (I.of_type down x.place.scope x.place.ty) (λ uy.
-      once None (of_constraints x.place.scope x.place x.constraints) (λ es. once None (of_constraints scope (place scope ty) beside) (λ ds.
-      followed_by (out-ASN1Type uy) (es ++ ds)))))
+      once None target (λ x. once None (I.of_type down x.place.scope x.place.ty) (λ uy. extended scope ty beside x (out-ASN1Type uy) (has_no_place (out-ASN1Type uy))))
 
   abbrev pub field_instance : Bool → Scope → ASN1Type → ClassFieldLayer → Option FieldType → Option TypeLayer
   field_instance down scope ty x None = None

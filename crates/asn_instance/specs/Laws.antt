@@ -8,7 +8,8 @@ use Rattle.asn_meaning.specs.Definitions.{Definitions, type_named}
 use Rattle.asn_meaning.specs.Plain.{IsPlain}
 use Rattle.asn_meaning.specs.Scopes.{Scope, Empty}
 use Rattle.asn_meaning.specs.ValueTrees.{ValueTree}
-use Rattle.asn_instance.specs.Fewer.{AreFewer, FallsAlike, with_names}
+use Rattle.asn_instance.specs.Closed.{AreClosed}
+use Rattle.asn_instance.specs.Fewer.{AreFewer, with_names}
 use Rattle.asn_instance.specs.Heads.{KeepsValues, KeepsValuesBack}
 use Rattle.asn_instance.specs.Instance.{instance}
 use Rattle.asn_instance.specs.Linked.{LinkedBy, SameOrLinked}
@@ -79,10 +80,18 @@ InstancesArePlain =
 abbrev pub LiteralsPlain : Type 0
 LiteralsPlain = (keeps : Option (List ℕ) → List ℕ → Bool) (defs others : Definitions) (j : ℕ) → WritesPlain (literals keeps) defs others j
 
--- Where fewer names may stay, the same instance is found if each name that stays in it may, and what is made of constraints
--- that fall away is made too.
+-- Where fewer names may stay, the same instance is found if each name that stays in it may.
 abbrev pub FewerNames : Type 0
 FewerNames =
-    (C : Choices) (fewer : Names) (defs : Definitions) (n k : ℕ) → AreFewer fewer C → FallsAlike C fewer defs n k →
+    (C : Choices) (fewer : Names) (defs : Definitions) (n k : ℕ) → AreFewer fewer C →
     (down : Bool) (scope : Scope) (ty uy : ASN1Type) → (instance C defs n k).of_type down scope ty ≡ Some uy → NamesStay fewer uy →
     (instance (with_names C fewer) defs n k).of_type down scope ty ≡ Some uy
+
+-- Where names are closed, the type definition that each stands for accepts and rejects the same trees as it did, and is in plain
+-- form.
+abbrev pub ClosedNamesMeanTheSame : Type 0
+ClosedNamesMeanTheSame =
+    (keeps : Names) (defs others : Definitions) (n k : ℕ) → AreClosed keeps defs others n k →
+    (name : List ℕ) (d : ToplevelTypeDefinition) → keeps None name ≡ true → type_named defs name ≡ Some d →
+    (e : ToplevelTypeDefinition) × (type_named others name ≡ Some e) × (e.parameterization ≡ None) × IsPlain others e.ty
+    × ((t : ValueTree) → (Accepts defs Empty d.ty t ↔ Accepts others Empty e.ty t) × (Rejects defs Empty d.ty t ↔ Rejects others Empty e.ty t))

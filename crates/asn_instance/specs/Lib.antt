@@ -9,4 +9,5 @@ pub mod Steady
 pub mod Plain
 pub mod Staying
 pub mod Fewer
+pub mod Closed
 pub mod Laws

@@ -1,6 +1,6 @@
 //! Laws of instances, each the contract of a function without a body.
 
-ghost use Rattle.asn_instance.specs.Laws.{FewerNames, InstanceKept, InstanceKeptBack, InstancesArePlain, LinkedTypesMeanTheSame, LiteralsKept, LiteralsPlain, LiteralsSteady, MoreLevels, Substitution};
+ghost use Rattle.asn_instance.specs.Laws.{ClosedNamesMeanTheSame, FewerNames, InstanceKept, InstanceKeptBack, InstancesArePlain, LinkedTypesMeanTheSame, LiteralsKept, LiteralsPlain, LiteralsSteady, MoreLevels, Substitution};
 
 /// What Judge says of a type in its scope it says of the instance in the empty scope.
 pub fn instance_kept()
@@ -50,4 +50,9 @@ pub fn literals_plain()
 /// Where fewer names may stay, the same instance is found if each name that stays in it may.
 pub fn fewer_names()
     ensures { FewerNames }
+{}
+
+/// What closed names stand for accepts and rejects the same trees as it did, and is in plain form.
+pub fn closed_names_mean_the_same()
+    ensures { ClosedNamesMeanTheSame }
 {}

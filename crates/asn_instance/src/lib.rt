@@ -6,7 +6,7 @@
 mod laws;
 
 pub use laws::{
-    fewer_names, instance_kept, instance_kept_back, instances_are_plain,
-    linked_types_mean_the_same, literals_kept, literals_plain, literals_steady, more_levels,
-    substitution,
+    closed_names_mean_the_same, fewer_names, instance_kept, instance_kept_back,
+    instances_are_plain, linked_types_mean_the_same, literals_kept, literals_plain,
+    literals_steady, more_levels, substitution,
 };
