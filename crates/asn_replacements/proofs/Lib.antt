@@ -1,0 +1,7 @@
+pub mod Copying
+pub mod Levelling
+pub mod Numbering
+pub mod Opening
+pub mod Outside
+pub mod Rising
+pub mod Staying

@@ -1,0 +1,5 @@
+pub mod Choosing
+pub mod Subjects
+pub mod Values
+pub mod Sets
+pub mod inner

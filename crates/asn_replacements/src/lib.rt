@@ -1,0 +1,22 @@
+//! What takes the place of values, sets, names and tags in the instance of a type, by the definitions of asn_instance.
+//!
+//! It borrows the trees and makes none: whoever makes the instance copies what a call gives. What meaning knows within a number of
+//! steps, a call computes by `steps`. Where these are used up, it fails for want of memory, so that each answer is the one of all
+//! further steps; None says for good that there is no such part. A call fails for nothing else.
+#![tactic(auto)]
+
+mod denoted;
+mod literals;
+mod names;
+mod parts;
+mod subjects;
+mod tables;
+mod tags;
+mod values;
+
+pub use names::stays;
+pub use parts::{marker_risen, part_named};
+pub use subjects::{Subject, ends_read, values_read};
+pub use tables::{SetMember, set_marker, set_members};
+pub use tags::{placed_tag, tag_brought};
+pub use values::{PlacedValue, default_value, end_value, is_outside, single_value};

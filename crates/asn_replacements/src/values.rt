@@ -1,0 +1,227 @@
+//! The value that takes the place of another: a literal, or the name of an item.
+
+ghost use Rattle.asn_heads.specs.Kinds.{shown_kind};
+ghost use Rattle.asn_heads.specs.Places.{shown_place};
+ghost use Rattle.asn_heads.specs.Scopes.{shown};
+ghost use Rattle.asn_heads.specs.Written.{shown_written};
+ghost use Rattle.asn_instance.specs.Instance.{is_empty};
+ghost use Rattle.asn_instance.specs.Literals.{default_under, default_written, is_item_name, is_literal, is_unbound_name, single_written, value_written};
+ghost use Rattle.asn_instance.specs.Subjects.{ends_read, values_read};
+ghost use Rattle.asn_meaning.specs.Answers.{once};
+ghost use Rattle.asn_meaning.specs.Judge.{meaning};
+ghost use Rattle.asn_replacements.specs.Subjects.{shown_subject};
+ghost use Rattle.asn_replacements.specs.Values.{is_outside, shown_placed};
+ghost use Rattle.std.specs.Option.{option_map};
+ghost use Rattle.std.specs.Prelude.{◌≡◌, ◌+◌, ◌||◌, ℕ, IfOk, None};
+
+use crate::denoted::{denoted_written, tree_written};
+use crate::literals::{is_dummy, is_item_name, is_literal, is_own_head, is_unbound_name};
+use crate::subjects::{Subject, ends_read, values_read};
+use asn_denotes::is_all;
+use asn_heads::{Kind, Place, Scope, ValueForm, Written, as_written, head, kind_of};
+use asn_index::Names;
+use asn_memory::{List, Mem, Text};
+use asn_shapes::Answer;
+use asn_tree::{ASN1Value, ParameterizationArgument};
+use std::alloc::Global;
+
+/// A value that takes the place of another: the value itself, or one that no tree holds.
+#[derive(Drop)]
+pub enum PlacedValue<'a> {
+    Same(&'a ASN1Value),
+    All,
+    Null,
+    Truth(bool),
+    Number(i128),
+    Bits(List<bool>),
+    Octets(List<u8>),
+    /// The name of an item.
+    Item(&'a Text),
+}
+
+/// Whether there are no dummies.
+fn has_no_dummy(dummies: &[ParameterizationArgument]) -> bool
+    ensures { result ≡ is_empty dummies.now }
+{
+    match dummies {
+        [] => true,
+        [_, ..] => false,
+    }
+}
+
+/// Whether a scope has no dummies.
+#[tactic(auto, using(crate::proofs::Outside::empty_outside, crate::proofs::Outside::entered_outside))]
+pub fn is_outside(scope: &Scope<'_>) -> bool
+    ensures { result ≡ is_outside (shown scope.now) }
+{
+    match scope {
+        Scope::Empty => true,
+        Scope::Entered { dummies, .. } => has_no_dummy(dummies),
+    }
+}
+
+/// Whether a value stays that is read under a head: a literal, or the name of an item of the head, which is no dummy.
+fn stays_under(scope: &Scope<'_>, kind: Kind<'_>, written: Written<'_>) -> bool
+    ensures { result ≡ (is_literal (shown_written written.entry) || is_item_name (shown scope.now) (shown_kind kind.entry) (shown_written written.entry)) }
+{
+    is_literal(written) || is_item_name(scope, kind, written)
+}
+
+/// What takes the place of a value, as a literal or an item's name.
+///
+/// None and Err: as `single_value`.
+fn value_written<'a>(
+    alloc: Global,
+    names: &Names<'a>,
+    steps: usize,
+    scope: &Scope<'a>,
+    value: &'a ASN1Value,
+    place: &Place<'a>,
+) -> Mem<Option<PlacedValue<'a>>>
+    ensures { IfOk result (λ found. (m : ℕ) → option_map shown_placed found ≡ value_written (meaning names.now.definitions.now (steps + m)) (shown scope.now) value.now (shown_place place.now)) }
+{
+    let kind = kind_of(place.ty);
+    if !is_own_head(kind) {
+        return Ok(None);
+    }
+    if stays_under(scope, kind, as_written(value)) {
+        return Ok(Some(PlacedValue::Same(value)));
+    }
+    let found = tree_written(alloc, names, steps, scope, value, place)?;
+    Ok(found)
+}
+
+/// What takes the place of a single value that is read under a type; one that stands for ALL becomes ALL.
+///
+/// None and Err: as `single_value`.
+fn single_written<'a>(
+    alloc: Global,
+    names: &Names<'a>,
+    steps: usize,
+    scope: &Scope<'a>,
+    value: &'a ASN1Value,
+    place: &Place<'a>,
+) -> Mem<Option<PlacedValue<'a>>>
+    ensures { IfOk result (λ found. (m : ℕ) → option_map shown_placed found ≡ single_written (meaning names.now.definitions.now (steps + m)) (shown scope.now) value.now (shown_place place.now)) }
+{
+    match is_all(alloc, names, steps, scope, ValueForm::Written(value), place)? {
+        Answer::Yes => Ok(Some(PlacedValue::All)),
+        Answer::No => {
+            let found = value_written(alloc, names, steps, scope, value, place)?;
+            Ok(found)
+        }
+        Answer::Unknown => {
+            let found = value_written(alloc, names, steps, scope, value, place)?;
+            Ok(found)
+        }
+    }
+}
+
+/// What takes the place of a single value on a subject; one that stands for ALL becomes ALL (X.680 51.2).
+///
+/// None: there is neither a literal nor an item for it. Err: want of memory, also where the steps are used up.
+pub fn single_value<'a>(
+    alloc: Global,
+    names: &Names<'a>,
+    steps: usize,
+    scope: &Scope<'a>,
+    value: &'a ASN1Value,
+    subject: Subject<'_, 'a>,
+) -> Mem<Option<PlacedValue<'a>>>
+    ensures { IfOk result (λ found. (m : ℕ) → option_map shown_placed found ≡ single_written (meaning names.now.definitions.now (steps + m)) (shown scope.now) value.now (values_read (shown_subject subject.entry))) }
+{
+    let place = values_read(alloc, subject)?;
+    let found = single_written(alloc, names, steps, scope, value, &place)?;
+    Ok(found)
+}
+
+/// What takes the place of an end of a range on a subject (X.680 51.4).
+///
+/// None and Err: as `single_value`.
+pub fn end_value<'a>(
+    alloc: Global,
+    names: &Names<'a>,
+    steps: usize,
+    scope: &Scope<'a>,
+    value: &'a ASN1Value,
+    subject: Subject<'_, 'a>,
+) -> Mem<Option<PlacedValue<'a>>>
+    ensures { IfOk result (λ found. (m : ℕ) → option_map shown_placed found ≡ value_written (meaning names.now.definitions.now (steps + m)) (shown scope.now) value.now (ends_read (shown_subject subject.entry))) }
+{
+    let place = ends_read(subject);
+    let found = value_written(alloc, names, steps, scope, value, &place)?;
+    Ok(found)
+}
+
+/// Whether a default stays that is read under bindings: a literal, or a plain name that no binding has.
+fn default_stays(scope: &Scope<'_>, written: Written<'_>) -> bool
+    ensures { result ≡ (is_literal (shown_written written.entry) || is_unbound_name (shown scope.now) (shown_written written.entry)) }
+{
+    is_literal(written) || is_unbound_name(scope, written)
+}
+
+/// What takes the place of a default under bindings, by the head of the member's type.
+///
+/// None and Err: as `single_value`.
+fn default_under<'a>(
+    alloc: Global,
+    names: &Names<'a>,
+    steps: usize,
+    scope: &Scope<'a>,
+    value: &'a ASN1Value,
+    head: &Place<'a>,
+) -> Mem<Option<PlacedValue<'a>>>
+    ensures { IfOk result (λ found. (m : ℕ) → option_map shown_placed found ≡ default_under (meaning names.now.definitions.now (steps + m)) (shown scope.now) value.now (shown_place head.now)) }
+{
+    if default_stays(scope, as_written(value)) {
+        return Ok(Some(PlacedValue::Same(value)));
+    }
+    if is_dummy(scope, as_written(value)) {
+        let found = denoted_written(alloc, names, steps, scope, value, head)?;
+        return Ok(found);
+    }
+    Ok(None)
+}
+
+/// What takes the place of a default under bindings.
+///
+/// None and Err: as `single_value`.
+fn default_bound<'a>(
+    alloc: Global,
+    names: &Names<'a>,
+    steps: usize,
+    scope: &Scope<'a>,
+    value: &'a ASN1Value,
+    place: &Place<'a>,
+) -> Mem<Option<PlacedValue<'a>>>
+    ensures { IfOk result (λ found. (m : ℕ) → option_map shown_placed found ≡ once None ((meaning names.now.definitions.now (steps + m)).head (shown_place place.now)) (default_under (meaning names.now.definitions.now (steps + m)) (shown scope.now) value.now)) }
+{
+    match head(alloc, names, steps, place)? {
+        None => Ok(None),
+        Some(head) => {
+            let found = default_under(alloc, names, steps, scope, value, &head)?;
+            Ok(found)
+        }
+    }
+}
+
+/// What takes the place of a member's default, read under the member's type: in a scope without dummies it stays (X.680 25.1).
+///
+/// None and Err: as `single_value`.
+#[tactic(auto, using(crate::proofs::Outside::default_outside, crate::proofs::Outside::default_inside))]
+pub fn default_value<'a>(
+    alloc: Global,
+    names: &Names<'a>,
+    steps: usize,
+    scope: &Scope<'a>,
+    value: &'a ASN1Value,
+    place: &Place<'a>,
+) -> Mem<Option<PlacedValue<'a>>>
+    ensures { IfOk result (λ found. (m : ℕ) → option_map shown_placed found ≡ default_written (meaning names.now.definitions.now (steps + m)) (shown scope.now) value.now (shown_place place.now)) }
+{
+    if is_outside(scope) {
+        return Ok(Some(PlacedValue::Same(value)));
+    }
+    let found = default_bound(alloc, names, steps, scope, value, place)?;
+    Ok(found)
+}
