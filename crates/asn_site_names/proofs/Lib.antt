@@ -1,0 +1,5 @@
+pub mod Listed
+pub mod Marking
+pub mod Missing
+pub mod Owning
+pub mod Setting
