@@ -1,0 +1,101 @@
+//! The table constraint with the object set that the bindings give.
+
+ghost use Rattle.asn_heads.specs.Scopes.{shown};
+ghost use Rattle.asn_instance.specs.Tables.{members_bound, opened, table_bound};
+ghost use Rattle.asn_link.specs.inner.Made.{table_made};
+ghost use Rattle.asn_replacements.specs.Sets.{shown_set_member};
+ghost use Rattle.std.specs.Prelude.{◌≡◌, IfOk, map};
+
+use asn_copy_trees::{copy_information_object_fields, copy_relational_constraint, copy_text};
+use asn_heads::Scope;
+use asn_memory::{List, Mem};
+use asn_replacements::{SetMember, set_marker, set_members};
+use asn_tree::{Constraint, ObjectSet, ObjectSetValue, RelationalConstraint, TableConstraint};
+use std::alloc::Global;
+
+/// A copy of a member of a set.
+///
+/// Err: want of memory.
+fn copied_member(alloc: Global, member: SetMember<'_>) -> Mem<ObjectSetValue>
+    ensures { IfOk result (λ copy. copy ≡ shown_set_member member.entry) }
+{
+    match member {
+        SetMember::Reference(name) => {
+            let copy = copy_text(alloc, name)?;
+            Ok(ObjectSetValue::Reference(copy))
+        }
+        SetMember::Inline(fields) => {
+            let copy = copy_information_object_fields(alloc, fields)?;
+            Ok(ObjectSetValue::Inline(copy))
+        }
+    }
+}
+
+/// Copies of the members of a set, in order.
+///
+/// Err: want of memory.
+fn copied_members(alloc: Global, members: &[SetMember<'_>]) -> Mem<List<ObjectSetValue>>
+    ensures { IfOk result (λ copies. copies ≡ map shown_set_member members.now) }
+{
+    let mut copies = List::new(alloc);
+    for member in members {
+        let copy = copied_member(alloc, *member)?;
+        copies.add(copy)?;
+    }
+    Ok(copies)
+}
+
+/// The object set of a table, where each dummy is the members of its argument.
+///
+/// Err: want of memory.
+fn bound_members<'a>(
+    alloc: Global,
+    scope: &Scope<'a>,
+    members: &'a [ObjectSetValue],
+) -> Mem<List<ObjectSetValue>>
+    ensures { IfOk result (λ copies. copies ≡ opened (members_bound (shown scope.now)) members.now) }
+{
+    let found = set_members(alloc, scope, members)?;
+    let copies = copied_members(alloc, found.as_slice())?;
+    Ok(copies)
+}
+
+/// Copies of the names after `@`.
+///
+/// Err: want of memory.
+fn copied_names(
+    alloc: Global,
+    names: &List<RelationalConstraint>,
+) -> Mem<List<RelationalConstraint>>
+    ensures { IfOk result (λ copies. copies ≡ names.now) }
+{
+    let mut copies = List::new(alloc);
+    for name in names.as_slice() {
+        let copy = copy_relational_constraint(alloc, name)?;
+        copies.add(copy)?;
+    }
+    Ok(copies)
+}
+
+/// A table constraint with the set that the scope gives, as a list (X.682 10.3, X.683 8.4).
+///
+/// Err: want of memory.
+pub fn table_constraint<'a>(
+    alloc: Global,
+    scope: &Scope<'a>,
+    table: &'a TableConstraint,
+) -> Mem<List<Constraint>>
+    ensures { IfOk result (λ made. made ≡ table_made (table_bound (shown scope.now) table.now)) }
+{
+    let extensible = set_marker(alloc, scope, &table.object_set)?;
+    let linked_fields = copied_names(alloc, &table.linked_fields)?;
+    let values = bound_members(alloc, scope, table.object_set.values.as_slice())?;
+    let made = List::of(
+        alloc,
+        Constraint::TableConstraint(TableConstraint {
+            object_set: ObjectSet { values, extensible },
+            linked_fields,
+        }),
+    )?;
+    Ok(made)
+}

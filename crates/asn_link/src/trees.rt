@@ -1,0 +1,294 @@
+//! Trees put together from parts, where all of these are made.
+
+ghost use Rattle.asn_link.specs.inner.Made.{alphabet_made, choice_made, component_made, contained_made, element_set_made, inner_made, joined_made, list_made, listed_made, operation_set_made, sequence_made, sequence_of_made, set_made, set_of_made, size_made, struct_made, subtype_made, type_constraint_made};
+ghost use Rattle.asn_tree.specs.declared.constraints.ElementOrSetOperation.{out-ElementOrSetOperation};
+ghost use Rattle.asn_tree.specs.declared.constraints.SetOperation.{out-SetOperation};
+ghost use Rattle.asn_tree.specs.declared.constraints.SubtypeElement.{out-SubtypeElement};
+ghost use Rattle.asn_tree.specs.declared.types.ASN1Type.{out-ASN1Type};
+ghost use Rattle.asn_tree.specs.declared.types.SequenceOrSet.{out-SequenceOrSet};
+ghost use Rattle.asn_tree.specs.declared.types.SequenceOrSetOf.{out-SequenceOrSetOf};
+ghost use Rattle.std.specs.Option.{option_map};
+ghost use Rattle.std.specs.Prelude.{◌≡◌, IfOk};
+
+use asn_copy_trees::copy_text;
+use asn_memory::{Box, List, Mem};
+use asn_tree::{
+    ASN1Type, Choice, ChoiceOption, ConstrainedComponent, Constraint, ElementOrSetOperation,
+    ElementSet, InnerTypeConstraint, SequenceOrSet, SequenceOrSetMember, SequenceOrSetOf,
+    SetOperation, SubtypeElement,
+};
+use std::alloc::Global;
+
+/// A SEQUENCE.
+pub fn sequence(made: Option<SequenceOrSet>) -> Option<ASN1Type>
+    ensures { option_map out-ASN1Type result ≡ sequence_made (option_map out-SequenceOrSet made) }
+{
+    match made {
+        None => None,
+        Some(made) => Some(ASN1Type::Sequence(made)),
+    }
+}
+
+/// A SET.
+pub fn set(made: Option<SequenceOrSet>) -> Option<ASN1Type>
+    ensures { option_map out-ASN1Type result ≡ set_made (option_map out-SequenceOrSet made) }
+{
+    match made {
+        None => None,
+        Some(made) => Some(ASN1Type::Set(made)),
+    }
+}
+
+/// A SEQUENCE OF.
+pub fn sequence_of(made: Option<SequenceOrSetOf>) -> Option<ASN1Type>
+    ensures { option_map out-ASN1Type result ≡ sequence_of_made (option_map out-SequenceOrSetOf made) }
+{
+    match made {
+        None => None,
+        Some(made) => Some(ASN1Type::SequenceOf(made)),
+    }
+}
+
+/// A SET OF.
+pub fn set_of(made: Option<SequenceOrSetOf>) -> Option<ASN1Type>
+    ensures { option_map out-ASN1Type result ≡ set_of_made (option_map out-SequenceOrSetOf made) }
+{
+    match made {
+        None => None,
+        Some(made) => Some(ASN1Type::SetOf(made)),
+    }
+}
+
+/// A CHOICE of these options, with the marker of another.
+pub fn choice(
+    layer: &Choice,
+    options: List<ChoiceOption>,
+    constraints: Option<List<Constraint>>,
+) -> Option<ASN1Type>
+    ensures { option_map out-ASN1Type result ≡ choice_made layer.now options constraints }
+{
+    match constraints {
+        None => None,
+        Some(constraints) => Some(ASN1Type::Choice(Choice {
+            extensible: layer.extensible,
+            options,
+            constraints,
+        })),
+    }
+}
+
+/// A SEQUENCE or SET of these members, with this marker.
+pub fn structure(
+    alloc: Global,
+    extensible: Option<usize>,
+    members: List<SequenceOrSetMember>,
+    constraints: Option<List<Constraint>>,
+) -> Option<SequenceOrSet>
+    ensures { option_map out-SequenceOrSet result ≡ struct_made extensible members constraints }
+{
+    match constraints {
+        None => None,
+        Some(constraints) => Some(SequenceOrSet {
+            components_of: List::new(alloc),
+            components_at: List::new(alloc),
+            extensible,
+            constraints,
+            members,
+        }),
+    }
+}
+
+/// A SEQUENCE OF or SET OF elements of this type.
+///
+/// Err: want of memory.
+pub fn list(
+    alloc: Global,
+    layer: &SequenceOrSetOf,
+    element: ASN1Type,
+    constraints: Option<List<Constraint>>,
+) -> Mem<Option<SequenceOrSetOf>>
+    ensures { IfOk result (λ made. option_map out-SequenceOrSetOf made ≡ list_made (out-SequenceOrSetOf layer.now) element constraints) }
+{
+    match constraints {
+        None => Ok(None),
+        Some(constraints) => {
+            let element_type = Box::new(alloc, element)?;
+            Ok(Some(SequenceOrSetOf {
+                constraints,
+                element_type,
+                is_recursive: layer.is_recursive,
+            }))
+        }
+    }
+}
+
+/// A constraint of this set, with the marker of another, as a list.
+///
+/// Err: want of memory.
+pub fn subtype_constraint(
+    alloc: Global,
+    layer: &ElementSet,
+    set: Option<ElementOrSetOperation>,
+) -> Mem<Option<List<Constraint>>>
+    ensures { IfOk result (λ made. made ≡ subtype_made layer.now set) }
+{
+    match set {
+        None => Ok(None),
+        Some(set) => {
+            let constraint = Constraint::SubtypeConstraint(ElementSet {
+                set,
+                extensible: layer.extensible,
+            });
+            let made = List::of(alloc, constraint)?;
+            Ok(Some(made))
+        }
+    }
+}
+
+/// A listed component with these constraints.
+///
+/// Err: want of memory.
+pub fn listed_component(
+    alloc: Global,
+    listed: &ConstrainedComponent,
+    constraints: Option<List<Constraint>>,
+) -> Mem<Option<ConstrainedComponent>>
+    ensures { IfOk result (λ made. made ≡ listed_made listed.now constraints) }
+{
+    match constraints {
+        None => Ok(None),
+        Some(constraints) => {
+            let identifier = copy_text(alloc, &listed.identifier)?;
+            Ok(Some(ConstrainedComponent {
+                identifier,
+                constraints,
+                presence: listed.presence,
+            }))
+        }
+    }
+}
+
+/// A contained subtype.
+pub fn contained(made: Option<ASN1Type>, extensible: bool) -> Option<SubtypeElement>
+    ensures { option_map out-SubtypeElement result ≡ contained_made extensible made }
+{
+    match made {
+        None => None,
+        Some(subtype) => Some(SubtypeElement::ContainedSubtype {
+            subtype,
+            extensible,
+        }),
+    }
+}
+
+/// A type as an element.
+pub fn type_constraint(made: Option<ASN1Type>) -> Option<SubtypeElement>
+    ensures { option_map out-SubtypeElement result ≡ type_constraint_made made }
+{
+    match made {
+        None => None,
+        Some(ty) => Some(SubtypeElement::TypeConstraint(ty)),
+    }
+}
+
+/// FROM with a set.
+///
+/// Err: want of memory.
+pub fn alphabet(alloc: Global, made: Option<ElementOrSetOperation>) -> Mem<Option<SubtypeElement>>
+    ensures { IfOk result (λ element. option_map out-SubtypeElement element ≡ alphabet_made made) }
+{
+    match made {
+        None => Ok(None),
+        Some(set) => {
+            let set = Box::new(alloc, set)?;
+            Ok(Some(SubtypeElement::PermittedAlphabet(set)))
+        }
+    }
+}
+
+/// SIZE with a set.
+///
+/// Err: want of memory.
+pub fn size(alloc: Global, made: Option<ElementOrSetOperation>) -> Mem<Option<SubtypeElement>>
+    ensures { IfOk result (λ element. option_map out-SubtypeElement element ≡ size_made made) }
+{
+    match made {
+        None => Ok(None),
+        Some(set) => {
+            let set = Box::new(alloc, set)?;
+            Ok(Some(SubtypeElement::SizeConstraint(set)))
+        }
+    }
+}
+
+/// WITH COMPONENT with these constraints.
+pub fn component(made: Option<List<Constraint>>) -> Option<SubtypeElement>
+    ensures { option_map out-SubtypeElement result ≡ component_made made }
+{
+    match made {
+        None => None,
+        Some(constraints) => Some(SubtypeElement::SingleTypeConstraint(constraints)),
+    }
+}
+
+/// WITH COMPONENTS of these listed components, partial where another is.
+pub fn inner_element(
+    layer: &InnerTypeConstraint,
+    made: Option<List<ConstrainedComponent>>,
+) -> Option<SubtypeElement>
+    ensures { option_map out-SubtypeElement result ≡ inner_made layer.now made }
+{
+    match made {
+        None => None,
+        Some(constraints) => {
+            Some(SubtypeElement::MultipleTypeConstraints(InnerTypeConstraint {
+                is_partial: layer.is_partial,
+                constraints,
+            }))
+        }
+    }
+}
+
+/// A set of one element.
+pub fn element_set(made: Option<SubtypeElement>) -> Option<ElementOrSetOperation>
+    ensures { option_map out-ElementOrSetOperation result ≡ element_set_made made }
+{
+    match made {
+        None => None,
+        Some(element) => Some(ElementOrSetOperation::Element(element)),
+    }
+}
+
+/// A set of elements joined by operators.
+pub fn operation_set(made: Option<SetOperation>) -> Option<ElementOrSetOperation>
+    ensures { option_map out-ElementOrSetOperation result ≡ operation_set_made (option_map out-SetOperation made) }
+{
+    match made {
+        None => None,
+        Some(operation) => Some(ElementOrSetOperation::SetOperation(operation)),
+    }
+}
+
+/// An element and the set behind it, joined by the operator of another operation.
+///
+/// Err: want of memory.
+pub fn joined(
+    alloc: Global,
+    layer: &SetOperation,
+    base: SubtypeElement,
+    made: Option<ElementOrSetOperation>,
+) -> Mem<Option<SetOperation>>
+    ensures { IfOk result (λ operation. option_map out-SetOperation operation ≡ joined_made (out-SetOperation layer.now) base made) }
+{
+    match made {
+        None => Ok(None),
+        Some(set) => {
+            let operant = Box::new(alloc, set)?;
+            Ok(Some(SetOperation {
+                base,
+                operator: layer.operator,
+                operant,
+            }))
+        }
+    }
+}
