@@ -22,3 +22,4 @@ pub use lacking::{lacks_definition, lacks_list};
 pub use names::names_at;
 pub use needs::Need;
 pub use occurrences::Occurrence;
+pub use values::is_own;

@@ -64,7 +64,7 @@ fn is_own_in(name: &str, kind: Kind<'_>) -> bool
 }
 
 /// Whether the name is an item or a named number of the head (X.680 19.9, 20.8).
-fn is_own(head: &Place<'_>, name: &str) -> bool
+pub fn is_own(head: &Place<'_>, name: &str) -> bool
     ensures { result ≡ is_some (own_name (shown_place head.now) name.now) }
 {
     is_own_in(name, kind_of(head.ty))
