@@ -1,0 +1,3 @@
+pub mod StayingNames
+pub mod Laws
+pub mod Lent
