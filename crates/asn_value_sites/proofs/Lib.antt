@@ -1,0 +1,3 @@
+pub mod Dividing
+pub mod Governing
+pub mod Running
