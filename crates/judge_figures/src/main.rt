@@ -14,7 +14,7 @@ use asn_memory::{List, Mem, Text};
 use asn_modules::asn_spec;
 use asn_shapes::{Answer, Tree};
 use asn_streams::{StdSink, StdSource, give_all, take_text};
-use asn_tree::{Reading, ToplevelDefinition, ToplevelTypeDefinition, ToplevelValueDefinition};
+use asn_tree::{ToplevelDefinition, ToplevelTypeDefinition, ToplevelValueDefinition};
 use asn_tree_rows::in_sight;
 use std::alloc::Global;
 use std::process::ExitCode;
