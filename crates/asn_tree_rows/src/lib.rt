@@ -2,8 +2,7 @@
 //!
 //! A program of rows hands what its reader answered to the function for the type of its tree, which writes the line and lets
 //! the tree go. So the programs above own no tree: what a crate pays for letting trees go is paid here, once. One file for
-//! each family: types, values, constraints, objects, definitions, headers, whole texts; `pieces` has what is no tree. `sight` has the
-//! definitions of all modules of a text.
+//! each family: types, values, constraints, objects, definitions, headers, whole texts; `pieces` has what is no tree.
 #![tactic(auto)]
 
 mod constraints;
@@ -11,7 +10,6 @@ mod definitions;
 mod headers;
 mod objects;
 mod pieces;
-mod sight;
 mod texts;
 mod types;
 mod values;
@@ -27,7 +25,6 @@ pub use objects::{
 pub use pieces::{
     built_tag_line, named_number_line, named_numbers_line, operator_line, optional_line, tag_line,
 };
-pub use sight::in_sight;
 pub use texts::{counts_line, cut_line, module_line, reading_line};
 pub use types::{
     built_type_line, component_line, default_line, field_line, member_line, type_line,

@@ -14,13 +14,21 @@ use asn_memory::{List, Mem, Text};
 use asn_modules::asn_spec;
 use asn_shapes::{Answer, Tree};
 use asn_streams::{StdSink, StdSource, give_all, take_text};
-use asn_tree::{ToplevelDefinition, ToplevelTypeDefinition, ToplevelValueDefinition};
-use asn_tree_rows::in_sight;
+use asn_tree::{Reading, ToplevelDefinition, ToplevelTypeDefinition, ToplevelValueDefinition};
 use std::alloc::Global;
 use std::process::ExitCode;
 
 /// The most calls of rules that may lie within each other.
 const DEPTH: usize = 512;
+
+/// The definitions of all modules, in order.
+fn in_sight(alloc: Global, reading: Reading) -> Mem<List<ToplevelDefinition>> {
+    let mut all = List::new(alloc);
+    for (_, definitions) in reading.into_vec() {
+        all.append(definitions)?;
+    }
+    Ok(all)
+}
 
 /// The first type definition without parameters.
 fn first_type(definitions: &[ToplevelDefinition]) -> Option<&ToplevelTypeDefinition> {

@@ -11,14 +11,13 @@ mod sight;
 mod trees;
 
 use crate::judgements::{write_members, write_values};
-use crate::sight::steps_of;
+use crate::sight::{in_sight, steps_of};
 use asn_derivation::SpecError;
 use asn_index::Names;
 use asn_memory::{List, Mem, Text};
 use asn_modules::asn_spec;
 use asn_streams::{StdSink, StdSource, give_all, take_text};
 use asn_tree::{Reading, ToplevelDefinition};
-use asn_tree_rows::in_sight;
 use std::alloc::Global;
 use std::process::ExitCode;
 use std::string::ToString;

@@ -1,9 +1,20 @@
-//! How many steps each question of a text has.
+//! What is in sight in a text: its definitions, and how many steps each question there has.
 
-use asn_tree::{ASN1Value, ToplevelDefinition, ToplevelValueDefinition};
+use asn_memory::{List, Mem};
+use asn_tree::{ASN1Value, Reading, ToplevelDefinition, ToplevelValueDefinition};
+use std::alloc::Global;
 
 /// The steps of each question, where the text says nothing else.
 pub(crate) const STEPS: usize = 32;
+
+/// The definitions of all modules, in order.
+pub(crate) fn in_sight(alloc: Global, reading: Reading) -> Mem<List<ToplevelDefinition>> {
+    let mut all = List::new(alloc);
+    for (_, definitions) in reading.into_vec() {
+        all.append(definitions)?;
+    }
+    Ok(all)
+}
 
 /// Whether the value says how many steps there are, and is none of those that are asked about.
 pub(crate) fn says_steps(definition: &ToplevelValueDefinition) -> bool {
