@@ -101,7 +101,7 @@ fn is_own_at<'a>(
 /// Whether an argument is an item of its governor, which comes before an object of that name.
 ///
 /// Err: want of memory, also where the steps are used up.
-fn is_own_argument<'a>(
+pub fn is_own_argument<'a>(
     alloc: Global,
     names: &Names<'a>,
     steps: usize,

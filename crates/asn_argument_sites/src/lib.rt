@@ -10,5 +10,5 @@ mod aside;
 mod governed;
 mod parts;
 
-pub use aside::{handed_on_here, is_aside};
+pub use aside::{handed_on_here, is_aside, is_own_argument};
 pub use parts::with_argument_parts;

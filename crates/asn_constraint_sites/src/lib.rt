@@ -17,5 +17,4 @@ mod values;
 pub use contents::with_constraint;
 pub use elements::with_element;
 pub use listed::with_listed;
-pub use parts::{governor_boxed, lent};
 pub use sets::with_set;

@@ -8,13 +8,13 @@ ghost use Rattle.asn_sites.specs.Sites.{shown_around, shown_sites};
 ghost use Rattle.std.specs.Option.{option_map};
 ghost use Rattle.std.specs.Prelude.{◌≡◌, ◌+◌, ◌++◌, ◌∷◌, [], IfOk, map, ℕ};
 
-use crate::parts::{element_type, governor_boxed, lent, listed_type};
+use crate::parts::{element_type, listed_type};
 use asn_heads::Place;
 use asn_index::Names;
-use asn_memory::{Box, List, Mem};
+use asn_memory::{List, Mem};
 use asn_sites::{
-    Around, Form, Site, governor_copied, onward, shared, with_constraints, with_loose_lists,
-    with_site,
+    Around, Form, Site, governor_boxed, governor_copied, lent, onward, shared, with_constraints,
+    with_loose_lists, with_site,
 };
 use asn_tree::{ConstrainedComponent, Constraint};
 use std::alloc::Global;

@@ -1,4 +1,4 @@
-//! Types that are parts of a type, and types that govern.
+//! Types that are parts of a type.
 
 ghost use Rattle.asn_heads.specs.Kinds.{shown_kind};
 ghost use Rattle.asn_heads.specs.Places.{shown_place};
@@ -14,35 +14,10 @@ ghost use Rattle.std.specs.Prelude.{◌≡◌, ◌+◌, IfOk, None, Some, ℕ};
 
 use asn_heads::{Kind, Place, head, kind_of};
 use asn_index::Names;
-use asn_memory::{Box, Mem};
+use asn_memory::Mem;
 use asn_shapes::{element_place, member_type, members_of, option_type};
 use asn_tree::ChoiceOption;
 use std::alloc::Global;
-
-/// A type that governs, lent, where there is one.
-pub fn lent<'p, 'a>(place: &'p Option<Place<'a>>) -> Option<&'p Place<'a>>
-    ensures { option_map (λ p. shown_place p.now) result ≡ shown_governor place.now }
-{
-    match place {
-        None => None,
-        Some(place) => Some(place),
-    }
-}
-
-/// A type that governs, on the heap, where there is one.
-///
-/// Err: want of memory.
-pub fn governor_boxed<'a>(alloc: Global, place: Option<Place<'a>>) -> Mem<Option<Box<Place<'a>>>>
-    ensures { IfOk result (λ governor. shown_governor governor ≡ shown_governor place.entry) }
-{
-    match place {
-        None => Ok(None),
-        Some(place) => {
-            let place = Box::new(alloc, place)?;
-            Ok(Some(place))
-        }
-    }
-}
 
 /// The type of the first member of the name in a head.
 ///

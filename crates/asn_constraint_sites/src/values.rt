@@ -8,11 +8,11 @@ ghost use Rattle.asn_sites.specs.Sites.{shown_around, shown_sites};
 ghost use Rattle.std.specs.Option.{option_copied, option_map};
 ghost use Rattle.std.specs.Prelude.{◌≡◌, ◌++◌, ◌∷◌, [], IfOk, None};
 
-use crate::parts::governor_boxed;
 use asn_heads::{Place, TypeForm, ValueForm, integer_of, plain_text};
 use asn_memory::{Box, List, Mem};
 use asn_sites::{
-    Around, Asked, Form, Site, ValuePlace, governor_copied, shared, with_site, without_way,
+    Around, Asked, Form, Site, ValuePlace, governor_boxed, governor_copied, shared, with_site,
+    without_way,
 };
 use asn_tree::ASN1Value;
 use std::alloc::Global;

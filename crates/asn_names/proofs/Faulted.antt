@@ -3,7 +3,7 @@ use Rattle.std.proofs.Common.{◌≡◌, ℕ, zero, suc, ◌+◌, ◌<◌, List,
 use Rattle.std.specs.Prelude.{ℤ, ◌&&◌, ◌||◌, is_none, is_some, not, codes, if◌then◌else◌}
 use Rattle.std.specs.List.{All, Contains, list_any}
 use Rattle.std.specs.Str.{bytes_eq}
-use Rattle.std.proofs.lemmas.List.Elements.{All-contains, All-head, All-tail, All-weaker}
+use Rattle.std.proofs.lemmas.List.Elements.{All-contains, All-weaker}
 use Rattle.asn_tree.specs.declared.definitions.ToplevelDefinition.{ToplevelDefinition}
 use Rattle.asn_tree.specs.declared.definitions.ToplevelDefinition.TheVariants.{TypeDef, Value, Information}
 use Rattle.asn_tree.specs.declared.definitions.ToplevelTypeDefinition.{ToplevelTypeDefinition}
@@ -32,6 +32,7 @@ use Rattle.asn_needs.specs.Occurrences.{NeedsType, Occurrence, governed_by_class
 use Rattle.asn_needs.specs.PartsOfTypes.{instance_at}
 use Rattle.asn_needs.specs.Sites.{Seen, seen, Site, Form, AsEnd, ValuePlace, AType, AValue, AConstraint, ASet, AnElement, ToDefinition}
 use Rattle.asn_needs.specs.Stands.{IsPlaceOf}
+use Rattle.asn_needs.proofs.Passing.{none_passes, passes, some_passes}
 use Rattle.asn_names.specs.declared.faults.Fault.{Fault as Warned}
 use Rattle.asn_names.specs.declared.faults.Fault.TheVariants as warned
 use Rattle.asn_names.specs.Definitions.{Definitions, last_named}
@@ -63,24 +64,6 @@ and_false false = refl
 not_both : (b : Bool) → b ≡ true → b ≡ false → ⊥
 not_both true h e = absurd cc
 not_both false h e = absurd cc
-
--- an item that passes
-some_passes : {A : Type 0} (f : A → Bool) (xs : List A) → list_any f xs ≡ true → (x : A) × Contains xs x × (f x ≡ true)
-some_passes f [] h = absurd cc
-some_passes {A = A} f (x ∷ xs) h = go (f x) refl (λ g. some_passes f xs g) h
-  where
-    go : (b : Bool) → f x ≡ b → (list_any f xs ≡ true → (y : A) × Contains xs y × (f y ≡ true)) → (b || list_any f xs) ≡ true → (y : A) × Contains (x ∷ xs) y × (f y ≡ true)
-    go true e later g = (x, (0, omega arith, refl), e)
-    go false e later g = let l = later g in (l.0, (suc l.1.0, omega (arith, l.1.1), l.1.2), l.2)
-
-passes : {A : Type 0} (f : A → Bool) (xs : List A) (x : A) → Contains xs x → f x ≡ true → list_any f xs ≡ true
-passes f [] x (k, lt, e) h = absurd (omega (arith, lt))
-passes f (y ∷ xs) x (zero, lt, e) h = ap (λ b. b || list_any f xs) (ap f e ∙ h)
-passes f (y ∷ xs) x (suc k, lt, e) h = or_true (f y) (list_any f xs) (passes f xs x (k, omega (arith, lt), e) h)
-
-none_passes : {A : Type 0} (f : A → Bool) (xs : List A) → All (λ x. f x ≡ false) xs → list_any f xs ≡ false
-none_passes f [] all = refl
-none_passes f (x ∷ xs) all = ap (λ b. b || list_any f xs) (All-head (λ y. f y ≡ false) x xs all) ∙ none_passes f xs (All-tail (λ y. f y ≡ false) x xs all)
 
 -- ---- names of types
 

@@ -1,3 +1,4 @@
 pub mod Pigeons
 pub mod Heights
 pub mod OneFault
+pub mod Passing

@@ -19,7 +19,7 @@ ghost use Rattle.std.specs.Option.{option_copied, option_map};
 ghost use Rattle.std.specs.Prelude.{◌≡◌, ◌+◌, ℕ, IfOk};
 
 use asn_argument_sites::with_argument_parts;
-use asn_constraint_sites::{lent, with_constraint, with_element, with_listed, with_set};
+use asn_constraint_sites::{with_constraint, with_element, with_listed, with_set};
 use asn_heads::{Place, Scope, TypeForm, ValueForm};
 use asn_index::Names;
 use asn_memory::{Box, List, Mem};
@@ -27,23 +27,13 @@ use asn_object_sites::{
     with_class_field, with_given, with_loose_field, with_loose_parts, with_object, with_set_items,
 };
 use asn_sites::{
-    Around, Asked, Form, OnConstraint, OnElement, OnSet, Site, TypePlace, constraints_behind,
-    with_governor, with_type,
+    Around, Asked, Form, OnConstraint, OnElement, OnSet, Site, TypePlace, constraints_behind, lent,
+    unboxed, with_governor, with_type,
 };
 use asn_tree::{ConstrainedComponent, Constraint, Parameter, ParameterizationArgument};
 use asn_value_sites::with_value;
 use std::alloc::Global;
 use std::rc::Rc;
-
-/// The type that governs, out of its box.
-fn unboxed<'p, 'a>(governor: &'p Option<Box<Place<'a>>>) -> Option<&'p Place<'a>>
-    ensures { option_map (λ p. shown_place p.now) result ≡ shown_governor governor.now }
-{
-    match governor {
-        None => None,
-        Some(place) => Some(place.get()),
-    }
-}
 
 /// What stands in a value, under the type that governs it.
 ///

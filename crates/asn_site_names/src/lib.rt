@@ -22,4 +22,5 @@ pub use lacking::{lacks_definition, lacks_list};
 pub use names::names_at;
 pub use needs::Need;
 pub use occurrences::Occurrence;
-pub use values::is_own;
+pub use paths::is_path;
+pub use values::{is_governed_by_class, is_own};

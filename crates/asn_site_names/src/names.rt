@@ -13,21 +13,11 @@ use crate::needs::Need;
 use crate::occurrences::{Occurrence, occurring_alone};
 use crate::types::{components_names, governor_names, type_names};
 use crate::values::value_names;
-use asn_heads::{Place, as_given, kind_of, value_written};
+use asn_heads::{as_given, kind_of, value_written};
 use asn_index::Names;
-use asn_memory::{Box, List, Mem};
-use asn_sites::{Form, Site, scope_in};
+use asn_memory::{List, Mem};
+use asn_sites::{Form, Site, scope_in, unboxed};
 use std::alloc::Global;
-
-/// The type that governs, where there is one.
-fn lent<'s, 'a>(governing: &'s Option<Box<Place<'a>>>) -> Option<&'s Place<'a>>
-    ensures { lent_place result ≡ shown_governor governing.now }
-{
-    match governing {
-        None => None,
-        Some(place) => Some(place.get()),
-    }
-}
 
 /// The names that occur at a place: dummies, arcs, and items and named numbers of what governs aside. Where a form holds no name of
 /// its own, names stand in its parts, which are places themselves.
@@ -47,7 +37,7 @@ pub fn names_at<'a>(
         Form::ComponentsOf(name) => Ok(components_names(alloc, scope, name)?),
         Form::AValue(_, value, place) => {
             let written = value_written(*value);
-            Ok(value_names(alloc, names, steps, scope, lent(place), written)?)
+            Ok(value_names(alloc, names, steps, scope, unboxed(place), written)?)
         }
         Form::LooseArgument(argument) => Ok(argument_names(alloc, scope, argument)?),
         Form::ADummy(dummy) => Ok(governor_names(alloc, scope, &dummy.param_governor)?),

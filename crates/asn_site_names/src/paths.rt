@@ -27,7 +27,7 @@ fn is_mark_at(bytes: &[u8], number: usize) -> bool
 
 /// Whether a name is several, joined by `.&`.
 #[tactic(auto, using(crate::proofs::Marking::path_found, crate::proofs::Marking::path_passed, crate::proofs::Marking::path_done))]
-pub(crate) fn is_path(name: &str) -> bool
+pub fn is_path(name: &str) -> bool
     ensures { result ≡ is_path name.now }
 {
     let bytes = name.as_bytes();

@@ -14,7 +14,7 @@ ghost use Rattle.asn_needs.specs.Sites.{seen};
 ghost use Rattle.asn_site_names.specs.Occurrences.{shown_occurrences};
 ghost use Rattle.asn_site_names.specs.inner.Governing.{lent_place};
 ghost use Rattle.asn_site_names.specs.inner.Lacks.{is_aside};
-ghost use Rattle.std.specs.Option.{option_copied};
+ghost use Rattle.std.specs.Option.{option_copied, option_map};
 ghost use Rattle.std.specs.Prelude.{◌≡◌, ◌+◌, ℕ, false, is_some, IfOk, None, Some};
 
 use crate::lacking::lacks;
@@ -179,9 +179,9 @@ fn written_names<'a>(
     }
 }
 
-/// Whether a class governs.
-fn is_governed_by_class(names: &Names<'_>, governing: Option<&Place<'_>>) -> bool
-    ensures { result ≡ once false (lent_place governing.entry) (is_class_name names.now.definitions.now) }
+/// Whether the type that governs is a class's name.
+pub fn is_governed_by_class(names: &Names<'_>, governing: Option<&Place<'_>>) -> bool
+    ensures { result ≡ once false (option_map (λ p. shown_place p.now) governing.entry) (is_class_name names.now.definitions.now) }
 {
     match governing {
         None => false,

@@ -10,6 +10,7 @@ mod components;
 mod constraints;
 mod forms;
 mod instances;
+mod lending;
 mod loose;
 mod scopes;
 mod sites;
@@ -22,6 +23,7 @@ pub use forms::{
     Asked, ClassFieldForm, Form, OnConstraint, OnElement, OnSet, SetForm, TypePlace, ValuePlace,
 };
 pub use instances::{Instance, instance_at, with_dummies};
+pub use lending::{governor_boxed, lent, unboxed};
 pub use loose::{list_in, with_loose_list, with_loose_lists};
 pub use scopes::filled;
 pub use sites::{Site, with_site};

@@ -10,12 +10,11 @@ ghost use Rattle.asn_sites.specs.Sites.{shown_around, shown_sites};
 ghost use Rattle.std.specs.Option.{option_copied, option_map};
 ghost use Rattle.std.specs.Prelude.{◌≡◌, ◌++◌, ◌∷◌, [], IfOk, map};
 
-use asn_constraint_sites::governor_boxed;
 use asn_denotes::NamedValue;
 use asn_heads::{Place, ValueForm};
 use asn_memory::{Box, List, Mem, Text};
 use asn_shapes::{Member, member_type};
-use asn_sites::{Around, Form, Site, ValuePlace, governor_copied, with_site};
+use asn_sites::{Around, Form, Site, ValuePlace, governor_boxed, governor_copied, with_site};
 use asn_tree::ASN1Value;
 use std::alloc::Global;
 use std::rc::Rc;

@@ -10,4 +10,4 @@ mod governors;
 mod wrong;
 
 pub use governors::is_wrong_governor;
-pub use wrong::is_wrong_argument;
+pub use wrong::{is_braced, is_unknown, is_wrong_argument};

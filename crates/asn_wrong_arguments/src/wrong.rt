@@ -61,7 +61,7 @@ fn is_braced_at(written: Written<'_>) -> bool
 }
 
 /// Whether an argument is a value between braces, which may be an object.
-fn is_braced(argument: &Parameter) -> bool
+pub fn is_braced(argument: &Parameter) -> bool
     ensures { result ≡ is_braced (out-Parameter argument.now) }
 {
     match argument {
@@ -112,7 +112,7 @@ fn unknown_name(names: &Names<'_>, written: Written<'_>) -> bool
 }
 
 /// Whether an argument is a name that has no definition.
-fn is_unknown(names: &Names<'_>, argument: &Parameter) -> bool
+pub fn is_unknown(names: &Names<'_>, argument: &Parameter) -> bool
     ensures { result ≡ is_unknown names.now.definitions.now (out-Parameter argument.now) }
 {
     match argument {
