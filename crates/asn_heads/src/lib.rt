@@ -40,7 +40,7 @@ pub use lists::{ArgumentLists, argument_lists};
 pub use matching::item_at;
 pub use names::{dummy_target, name_target, reference_target};
 pub use objects::{
-    GivenField, Gives, as_given, field_target, given, object_field, object_field_type,
+    GivenField, Gives, as_given, field_target, given, marked, object_field, object_field_type,
 };
 pub use places::{Place, Target};
 pub use scopes::{Argument, Bound, Scope};

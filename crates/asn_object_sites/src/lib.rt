@@ -15,4 +15,4 @@ pub use class_fields::with_class_field;
 pub use loose::with_loose_parts;
 pub use objects::with_object;
 pub use sets::with_set_items;
-pub use settings::{with_given, with_loose_field};
+pub use settings::{type_if_classed, with_given, with_loose_field};

@@ -56,8 +56,8 @@ fn type_of_field<'a>(class: Class<'a>, name: &str) -> Option<TypeForm<'a>>
     }
 }
 
-/// The same of a class that may not be asked.
-fn type_if_classed<'a>(class: Option<Class<'a>>, name: &str) -> Option<TypeForm<'a>>
+/// The type of the field of this name in a class that may not be asked, where there is one.
+pub fn type_if_classed<'a>(class: Option<Class<'a>>, name: &str) -> Option<TypeForm<'a>>
     ensures { option_map shown_type result ≡ once None (shown_of_class class.entry) (λ c. once None (field_of c name.now) field_ty) }
 {
     match class {

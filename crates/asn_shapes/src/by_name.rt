@@ -13,7 +13,7 @@ ghost use Rattle.std.specs.Str.{bytes_eq};
 
 use crate::members::Member;
 use crate::trees::{Field, Tree};
-use asn_memory::{Mem, OutOfMemory};
+use asn_memory::Mem;
 use std::alloc::Global;
 use std::collections::BTreeMap;
 

@@ -10,7 +10,7 @@ ghost use Rattle.std.specs.List.{list_any};
 ghost use Rattle.std.specs.Option.{option_map};
 ghost use Rattle.std.specs.Prelude.{◌≡◌};
 
-use crate::members::{Member, member_named};
+use crate::members::Member;
 use crate::trees::{Field, Tree, View};
 use asn_tree::Enumeral;
 
