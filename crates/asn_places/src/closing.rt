@@ -13,6 +13,9 @@ use asn_node_sites::{Node, node_sites};
 use asn_sites::Site;
 use std::alloc::Global;
 
+/// How many sites are computed at most. A template that is entered twice by each of its places has more.
+const MOST: usize = 1_000_000;
+
 /// The sites with further ones behind them.
 ///
 /// Err: want of memory.
@@ -27,7 +30,7 @@ fn with_all<'a>(sites: List<Site<'a>>, others: List<Site<'a>>) -> Mem<List<Site<
 
 /// These sites, and what stands in each of them at every depth.
 ///
-/// Err: want of memory, also where the steps are used up.
+/// Err: want of memory, also where the steps are used up, and where there are a million sites or more.
 pub fn sites_below<'a>(
     alloc: Global,
     names: &Names<'a>,
@@ -37,7 +40,7 @@ pub fn sites_below<'a>(
     ensures { IfOk result (λ all. (m : ℕ) → AreBelow (seen names.now.definitions.now (steps + m)) (shown_sites first.entry) (shown_sites all)) }
 {
     let mut sites = first;
-    for i in 0..usize::MAX {
+    for i in 0..MOST {
         if i >= sites.len() {
             return Ok(sites);
         }
@@ -49,7 +52,7 @@ pub fn sites_below<'a>(
 
 /// The places of a definition or of a class's field.
 ///
-/// Err: want of memory, also where the steps are used up.
+/// Err: want of memory, also where the steps are used up, and where there are a million places or more.
 pub fn places_of<'a>(
     alloc: Global,
     names: &Names<'a>,
