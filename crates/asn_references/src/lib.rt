@@ -1,0 +1,14 @@
+//! The names in a definition that stand where a reference may stand, of whatever kind.
+//!
+//! It stands on the trees, borrows them, copies no text, and looks no name up. The layer above asks it where a definition may
+//! lead.
+#![tactic(auto)]
+
+mod constraints;
+mod definitions;
+mod names;
+mod objects;
+mod types;
+mod values;
+
+pub use definitions::references;
