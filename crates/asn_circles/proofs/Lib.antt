@@ -1,0 +1,4 @@
+pub mod Ascending
+pub mod Added
+pub mod Standing
+pub mod Needed
