@@ -11,6 +11,7 @@ use Rattle.asn_check.specs.Needed.{IsWarned, for_fault, for_several, warning_of,
 use Rattle.asn_check.specs.Warnings.{Warning, AreWarnings, IsDue, of_its_fault, of_several, warning_for}
 
 told_alike : (name : List ℕ) (f : Warned) → warning_of name (stands_as f) ≡ warning_for name f
+told_alike name warned.Argument = refl
 told_alike name warned.MissingDependency = refl
 told_alike name warned.NotYetInplemented = refl
 

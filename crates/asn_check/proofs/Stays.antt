@@ -14,5 +14,5 @@ keeps differ means plain unchanged reading linked are name d is clean free =
     let defs = definitions_of reading in
     let tags = differ reading linked are in
     let m = means defs linked tags name d is in
-    let as_read : IsPlain defs d.ty = unchanged defs d (unchanged_where_none defs (TypeDef d) clean.itself.faultless) in
+    let as_read : IsPlain defs d.ty = unchanged defs d (unchanged_where_none defs d.name (TypeDef d) clean.itself.faultless) in
     (m.0, m.1, subst (IsPlain linked) (sym m.3) ((plain defs linked tags m.2 d.ty).0 as_read), m.4)

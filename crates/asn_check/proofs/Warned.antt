@@ -1,22 +1,25 @@
 -- The warnings name by name are exactly those that are due, in order.
-use Rattle.std.proofs.Common.{◌≡◌, inl, inr, ℕ, zero, suc, List, [], ◌∷◌, ◌++◌, map, Bool, true, false, Option, Some, None, Bor, refl, sym, ap, ◌∙◌, subst, arith}
+use Rattle.std.proofs.Common.{◌≡◌, inl, inr, ℕ, zero, suc, ◌+◌, ◌<◌, ◌≤◌, List, [], ◌∷◌, ◌++◌, map, length, drop, get_or, Bool, true, false, Option, Some, None, Bor, refl, sym, ap, ◌∙◌, subst, arith, append_assoc, append-nil}
 use Rattle.std.specs.Prelude.{nat_lt, if◌then◌else◌}
 use Rattle.std.specs.Cmp.Lexicographic.{slice_cmp}
-use Rattle.std.specs.List.{All, AllByRecursion, AllPairs, Contains}
+use Rattle.std.specs.List.{All, AllByRecursion, AllPairs, AllZip, Contains}
 use Rattle.std.specs.List.Sorted.{IsStrictlySortedBy}
 use Rattle.std.specs.Ordering.{nat_cmp}
 use Rattle.std.specs.declared.cmp.Ordering.TheVariants.{Less}
+use Rattle.std.proofs.lemmas.List.{drop_more, drop_all, map-append}
 use Rattle.std.proofs.lemmas.List.Elements.{All-append, All-cons, All-contains, All-head, All-nil, All-tail, All-weaker, Contains-append_left, Contains-append_right}
 use Rattle.std.proofs.lemmas.List.Kept.{AllPairs-cons}
 use Rattle.std.proofs.lemmas.Slice.Eq.{bytes_eq-Decides}
 use Rattle.asn_tree.specs.declared.definitions.ToplevelDefinition.{ToplevelDefinition}
+use Rattle.asn_faults.specs.declared.errors.LinkerError.{LinkerError}
 use Rattle.asn_faults.specs.declared.errors.LinkerErrorType.TheVariants as kind
 use Rattle.asn_check.specs.KeptMeaning.{WarningsAreDue}
-use Rattle.asn_check.specs.Warnings.{Warning, warning, warning_for, IsDue, of_its_fault, of_several, IsBelow, Precedes, AreWarnings, of_fault, of_duplicate, fault_at, fault_on, warnings_on, warnings_of}
+use Rattle.asn_check.specs.Warnings.{Warning, warning, warning_for, IsDue, of_its_fault, of_several, IsBelow, Precedes, AreWarnings, of_fault, of_duplicate, IsFaultOf, AreWarningsOn, AreWarningsOf, no_names, on_each, said_by}
 use Rattle.asn_names.specs.declared.faults.Fault.{Fault}
-use Rattle.asn_names.specs.declared.faults.Fault.TheVariants.{MissingDependency, NotYetInplemented}
+use Rattle.asn_names.specs.declared.faults.Fault.TheVariants.{Argument, MissingDependency, NotYetInplemented}
 use Rattle.asn_index.specs.Definitions.{Definitions, IsStanding, is_duplicate, is_named, last_named, name_of}
-use Rattle.asn_names.specs.Faults.{fault_of}
+use Rattle.asn_names.specs.Faults.{HasFault}
+use Rattle.asn_names.proofs.Faultless.{one_fault}
 use Rattle.asn_index.specs.Index.{place_in}
 use Rattle.asn_index.specs.declared.names.LastPlace.{LastPlace}
 use Rattle.asn_names.specs.Linked.{IsDefined}
@@ -45,10 +48,12 @@ abbrev IsOn : List ℕ → Warning → Type 0
 IsOn name w = w.name ≡ Some name
 
 no_duplicate : (name : List ℕ) (f : Fault) → (warning_for name f).kind ≡ kind.Duplicate → ⊥
+no_duplicate name Argument e = cc
 no_duplicate name MissingDependency e = cc
 no_duplicate name NotYetInplemented e = cc
 
 told_of : (name : List ℕ) (f : Fault) → IsOn name (warning_for name f)
+told_of name Argument = refl
 told_of name MissingDependency = refl
 told_of name NotYetInplemented = refl
 
@@ -70,72 +75,79 @@ duplicate_on_name name false = All-nil (IsOn name)
 duplicate_on_name name true = All-cons (IsOn name) (warning name kind.Duplicate) [] refl (All-nil (IsOn name))
 
 module _ (defs : Definitions) where
-  on_name : (name : List ℕ) → All (IsOn name) (warnings_on defs name)
-  unfolding warnings_on
-  on_name name = All-append (IsOn name) (of_fault name (fault_on defs name)) (of_duplicate name (is_duplicate defs name)) (fault_on_name name (fault_on defs name)) (duplicate_on_name name (is_duplicate defs name))
+  on_name : (name : List ℕ) (here : List Warning) → AreWarningsOn defs name here → All (IsOn name) here
+  on_name name here on =
+      subst (All (IsOn name)) (sym on.told)
+      (All-append (IsOn name) (of_fault name on.fault) (of_duplicate name (is_duplicate defs name)) (fault_on_name name on.fault) (duplicate_on_name name (is_duplicate defs name)))
 
-  pairs_on : (name : List ℕ) → AllPairs Precedes (warnings_on defs name)
-  unfolding warnings_on
-  pairs_on name = fault_pairs name (fault_on defs name) (is_duplicate defs name)
+  pairs_on : (name : List ℕ) (here : List Warning) → AreWarningsOn defs name here → AllPairs Precedes here
+  pairs_on name here on = subst (AllPairs Precedes) (sym on.told) (fault_pairs name on.fault (is_duplicate defs name))
 
-  due_of_fault : (name : List ℕ) → All (IsDue defs) (of_fault name (fault_on defs name))
-  due_of_fault name = at (last_named defs name) refl
+  due_of_fault : (name : List ℕ) (o : Option Fault) → IsFaultOf defs name (last_named defs name) o → All (IsDue defs) (of_fault name o)
+  due_of_fault name o found = at (last_named defs name) refl o found
     where
-      due : (d : ToplevelDefinition) (o : Option Fault) → last_named defs name ≡ Some d → fault_of defs d ≡ o → All (IsDue defs) (of_fault name o)
-      due d None is e = All-nil (IsDue defs)
-      due d (Some f) is e = All-cons (IsDue defs) (warning_for name f) [] (of_its_fault name d f is e) (All-nil (IsDue defs))
-
-      at : (o : Option ToplevelDefinition) → last_named defs name ≡ o → All (IsDue defs) (of_fault name (fault_at defs o))
-      at None is = All-nil (IsDue defs)
-      at (Some d) is = due d (fault_of defs d) is refl
+      at : (x : Option ToplevelDefinition) → last_named defs name ≡ x → (o : Option Fault) → IsFaultOf defs name x o → All (IsDue defs) (of_fault name o)
+      at x is None h = All-nil (IsDue defs)
+      at None is (Some f) h = absurd cc
+      at (Some d) is (Some f) h = All-cons (IsDue defs) (warning_for name f) [] (of_its_fault name d f is h) (All-nil (IsDue defs))
 
   due_of_duplicate : (name : List ℕ) (b : Bool) → is_duplicate defs name ≡ b → All (IsDue defs) (of_duplicate name b)
   due_of_duplicate name false is = All-nil (IsDue defs)
   due_of_duplicate name true is = All-cons (IsDue defs) (warning name kind.Duplicate) [] (of_several name is) (All-nil (IsDue defs))
 
-  due_on : (name : List ℕ) → All (IsDue defs) (warnings_on defs name)
-  unfolding warnings_on
-  due_on name = All-append (IsDue defs) (of_fault name (fault_on defs name)) (of_duplicate name (is_duplicate defs name)) (due_of_fault name) (due_of_duplicate name (is_duplicate defs name) refl)
+  due_on : (name : List ℕ) (here : List Warning) → AreWarningsOn defs name here → All (IsDue defs) here
+  due_on name here on =
+      subst (All (IsDue defs)) (sym on.told)
+      (All-append (IsDue defs) (of_fault name on.fault) (of_duplicate name (is_duplicate defs name)) (due_of_fault name on.fault on.found) (due_of_duplicate name (is_duplicate defs name) refl))
 
-  fault_there : (name : List ℕ) (d : ToplevelDefinition) (f : Fault) → last_named defs name ≡ Some d → fault_of defs d ≡ Some f → Contains (warnings_on defs name) (warning_for name f)
-  unfolding warnings_on
-  fault_there name d f is e = subst (λ o. Contains (of_fault name o ++ of_duplicate name (is_duplicate defs name)) (warning_for name f)) (sym (ap (fault_at defs) is ∙ e)) (0, omega arith, refl)
+  -- the fault that is found is the one that stands
+  same_fault : (name : List ℕ) (d : ToplevelDefinition) (o p : Option Fault) → last_named defs name ≡ Some d → HasFault defs name d p → IsFaultOf defs name (last_named defs name) o → o ≡ p
+  same_fault name d o p is h found = one_fault defs name d o p (subst (λ x. IsFaultOf defs name x o) is found) h
 
-  duplicate_there : (name : List ℕ) → is_duplicate defs name ≡ true → Contains (warnings_on defs name) (warning name kind.Duplicate)
-  unfolding warnings_on
-  duplicate_there name is =
-      Contains-append_right (of_fault name (fault_on defs name)) (of_duplicate name (is_duplicate defs name)) (warning name kind.Duplicate)
-      (subst (λ b. Contains (of_duplicate name b) (warning name kind.Duplicate)) (sym is) (0, omega arith, refl))
+  fault_there : (name : List ℕ) (here : List Warning) (d : ToplevelDefinition) (f : Fault) → AreWarningsOn defs name here → last_named defs name ≡ Some d → HasFault defs name d (Some f) → Contains here (warning_for name f)
+  fault_there name here d f on is h =
+      subst (λ ws. Contains ws (warning_for name f))
+      (sym (on.told ∙ ap (λ o. of_fault name o ++ of_duplicate name (is_duplicate defs name)) (same_fault name d on.fault (Some f) is h on.found)))
+      (0, omega arith, refl)
+
+  duplicate_there : (name : List ℕ) (here : List Warning) → AreWarningsOn defs name here → is_duplicate defs name ≡ true → Contains here (warning name kind.Duplicate)
+  duplicate_there name here on is =
+      subst (λ ws. Contains ws (warning name kind.Duplicate)) (sym on.told)
+      (Contains-append_right (of_fault name on.fault) (of_duplicate name (is_duplicate defs name)) (warning name kind.Duplicate)
+      (subst (λ b. Contains (of_duplicate name b) (warning name kind.Duplicate)) (sym is) (0, omega arith, refl)))
 
   -- ---- name by name
 
-  due_all : (names : List (List ℕ)) → All (IsDue defs) (warnings_of defs names)
-  due_all [] = All-nil (IsDue defs)
-  due_all (name ∷ names) = All-append (IsDue defs) (warnings_on defs name) (warnings_of defs names) (due_on name) (due_all names)
+  due_all : {names : List (List ℕ)} {ws : List Warning} → AreWarningsOf defs names ws → All (IsDue defs) ws
+  due_all no_names = All-nil (IsDue defs)
+  due_all (on_each {name} {names} {here} {later} on all) = All-append (IsDue defs) here later (due_on name here on) (due_all all)
 
-  there : (names : List (List ℕ)) (name : List ℕ) (w : Warning) → Contains names name → Contains (warnings_on defs name) w → Contains (warnings_of defs names) w
-  there [] name w (k, lt, e) c = absurd (omega arith)
-  there (x ∷ names) name w (zero, lt, e) c = Contains-append_left (warnings_on defs x) (warnings_of defs names) w (subst (λ n. Contains (warnings_on defs n) w) (sym e) c)
-  there (x ∷ names) name w (suc k, lt, e) c = Contains-append_right (warnings_on defs x) (warnings_of defs names) w (there names name w (k, omega arith, e) c)
+  -- what is among all warnings on a name is among all
+  there : {names : List (List ℕ)} {ws : List Warning} → AreWarningsOf defs names ws → (name : List ℕ) (w : Warning) → Contains names name →
+      ((here : List Warning) → AreWarningsOn defs name here → Contains here w) → Contains ws w
+  there no_names name w (k, lt, e) h = absurd (omega arith)
+  there (on_each {name = x} {names} {here} {later} on all) name w (zero, lt, e) h =
+      Contains-append_left here later w (h here (subst (λ n. AreWarningsOn defs n here) e on))
+  there (on_each {name = x} {names} {here} {later} on all) name w (suc k, lt, e) h = Contains-append_right here later w (there all name w (k, omega arith, e) h)
 
   abbrev IsAfter : List ℕ → Warning → Type 0
   IsAfter x w = IsBelow (Some x) w.name
 
-  after : (x : List ℕ) (names : List (List ℕ)) → AllByRecursion (λ y. slice_cmp nat_cmp x y ≡ Less) names → All (IsAfter x) (warnings_of defs names)
-  after x [] all = All-nil (IsAfter x)
-  after x (name ∷ names) all =
-      All-append (IsAfter x) (warnings_on defs name) (warnings_of defs names)
-      (All-weaker (IsOn name) (IsAfter x) (λ w on. subst (IsBelow (Some x)) (sym on) all.0) (warnings_on defs name) (on_name name))
-      (after x names all.1)
+  after : (x : List ℕ) {names : List (List ℕ)} {ws : List Warning} → AreWarningsOf defs names ws → AllByRecursion (λ y. slice_cmp nat_cmp x y ≡ Less) names → All (IsAfter x) ws
+  after x no_names above = All-nil (IsAfter x)
+  after x (on_each {name} {names} {here} {later} on all) above =
+      All-append (IsAfter x) here later
+      (All-weaker (IsOn name) (IsAfter x) (λ w at. subst (IsBelow (Some x)) (sym at) above.0) here (on_name name here on))
+      (after x all above.1)
 
-  pairs_all : (names : List (List ℕ)) → IsStrictlySortedBy (slice_cmp nat_cmp) names → AllPairs Precedes (warnings_of defs names)
+  pairs_all : {names : List (List ℕ)} {ws : List Warning} → AreWarningsOf defs names ws → IsStrictlySortedBy (slice_cmp nat_cmp) names → AllPairs Precedes ws
   unfolding IsStrictlySortedBy
-  pairs_all [] sorted = no_pairs Precedes
-  pairs_all (name ∷ names) sorted =
-      append_pairs Precedes (warnings_on defs name) (warnings_of defs names) (pairs_on name) (pairs_all names sorted.1)
-      (All-weaker (IsOn name) (λ v. All (Precedes v) (warnings_of defs names))
-      (λ v on. All-weaker (IsAfter name) (Precedes v) (λ w h. inl (subst (λ o. IsBelow o w.name) (sym on) h)) (warnings_of defs names) (after name names sorted.0))
-      (warnings_on defs name) (on_name name))
+  pairs_all no_names sorted = no_pairs Precedes
+  pairs_all (on_each {name} {names} {here} {later} on all) sorted =
+      append_pairs Precedes here later (pairs_on name here on) (pairs_all all sorted.1)
+      (All-weaker (IsOn name) (λ v. All (Precedes v) later)
+      (λ v at. All-weaker (IsAfter name) (Precedes v) (λ w h. inl (subst (λ o. IsBelow o w.name) (sym at) h)) later (after name all sorted.0))
+      here (on_name name here on))
 
   -- several definitions of a name are some
   several_defined : (name : List ℕ) → is_duplicate defs name ≡ true → IsDefined defs name
@@ -145,15 +157,15 @@ module _ (defs : Definitions) where
       go None t = let none : nat_lt 1 0 ≡ true = ap (nat_lt 1) (sym t.uncounted) ∙ is in absurd cc
       go (Some p) t = t.some
 
-  all_due : (names : List (List ℕ)) → ((name : List ℕ) → IsDefined defs name → Contains names name) → (w : Warning) → IsDue defs w → Contains (warnings_of defs names) w
-  all_due names each w (of_its_fault name d f is e) = there names name _ (each name (d, is)) (fault_there name d f is e)
-  all_due names each w (of_several name is) = there names name _ (each name (several_defined name is)) (duplicate_there name is)
+  all_due : {names : List (List ℕ)} {ws : List Warning} → AreWarningsOf defs names ws → ((name : List ℕ) → IsDefined defs name → Contains names name) → (w : Warning) → IsDue defs w → Contains ws w
+  all_due all each w (of_its_fault name d f is e) = there all name _ (each name (d, is)) (λ here on. fault_there name here d f on is e)
+  all_due all each w (of_several name is) = there all name _ (each name (several_defined name is)) (λ here on. duplicate_there name here on is)
 
-  pub are_warnings : (names : List (List ℕ)) → IsStrictlySortedBy (slice_cmp nat_cmp) names → ((name : List ℕ) → IsDefined defs name → Contains names name) → AreWarnings defs (warnings_of defs names)
-  are_warnings names sorted each =
+  pub are_warnings : {names : List (List ℕ)} {ws : List Warning} → AreWarningsOf defs names ws → IsStrictlySortedBy (slice_cmp nat_cmp) names → ((name : List ℕ) → IsDefined defs name → Contains names name) → AreWarnings defs ws
+  are_warnings {ws = ws} all sorted each =
       record {
-        exact = λ w. (All-contains (IsDue defs) (warnings_of defs names) w (due_all names), all_due names each w);
-        ordered = pairs_all names sorted;
+        exact = λ w. (All-contains (IsDue defs) ws w (due_all all), all_due all each w);
+        ordered = pairs_all all sorted;
       }
 
 -- ---- the names of the linked definitions
@@ -171,17 +183,52 @@ name_there name (x ∷ ds) (d, is) = go (last_named ds name) refl (name_there na
     go None e later h = here (is_named name x) refl h
     go (Some y) e later h = let c = later (y, e) in (suc c.0, omega (arith, c.1), c.2)
 
-pub are_due : (defs standing : Definitions) → IsStanding defs standing → AreWarnings defs (warnings_of defs (map name_of standing))
-are_due defs standing are = are_warnings defs (map name_of standing) are.ascending (λ name defined. name_there name standing (defined.0, are.each name ∙ defined.1))
+pub are_due : WarningsAreDue
+are_due defs standing ws are all = are_warnings defs all are.ascending (λ name defined. name_there name standing (defined.0, are.each name ∙ defined.1))
 
-each_named : (ds : List (Bor ToplevelDefinition)) → map (λ d. name_of d.now) ds ≡ map name_of (map (λ d. d.now) ds)
+pub each_named : (ds : List (Bor ToplevelDefinition)) → map (λ d. name_of d.now) ds ≡ map name_of (map (λ d. d.now) ds)
 each_named [] = refl
 each_named (d ∷ ds) = ap (λ names. name_of d.now ∷ names) (each_named ds)
 
 -- what is warned of, name by name, over definitions that stand
-pub judged : WarningsAreDue → (defs names : Definitions) (ds slice : List (Bor ToplevelDefinition)) (ws : List Warning) → names ≡ defs → slice ≡ ds → IsStanding names (map (λ d. d.now) ds) → ws ≡ warnings_of names (map (λ d. name_of d.now) slice) → AreWarnings defs ws
-judged law defs names ds slice ws is same standing e =
+pub judged : WarningsAreDue → (defs names : Definitions) (ds slice : List (Bor ToplevelDefinition)) (ws : List Warning) → names ≡ defs → slice ≡ ds → IsStanding names (map (λ d. d.now) ds) → AreWarningsOf names (map (λ d. name_of d.now) slice) ws → AreWarnings defs ws
+judged law defs names ds slice ws is same standing all =
     subst (λ z. AreWarnings z ws) is
-    (subst (AreWarnings names)
-    (sym (e ∙ ap (λ xs. warnings_of names (map (λ d. name_of d.now) xs)) same ∙ ap (warnings_of names) (each_named ds)))
-    (law names (map (λ d. d.now) ds) standing))
+    (law names (map (λ d. d.now) ds) ws standing (subst (λ ns. AreWarningsOf names ns ws) (ap (map (λ d. name_of d.now)) same ∙ each_named ds) all))
+
+-- ---- one definition after the other
+
+-- with the warnings on the names behind, whatever these are, the warnings so far are those on all names
+abbrev pub AreBegun : Definitions → List (List ℕ) → List (List ℕ) → List Warning → Type 0
+AreBegun defs names behind so_far = (later : List Warning) → AreWarningsOf defs behind later → AreWarningsOf defs names (so_far ++ later)
+
+module _ (defs : Definitions) {X : Type 0} (f : X → List ℕ) (names : List (List ℕ)) (items : List X) where
+  pub begun : (so_far : List LinkerError) → names ≡ map f items → so_far ≡ [] → AreBegun defs names (map f items) (map said_by so_far)
+  begun so_far is none later h = subst (λ ns. AreWarningsOf defs ns (map said_by so_far ++ later)) (sym is) (subst (λ ws. AreWarningsOf defs (map f items) (map said_by ws ++ later)) (sym none) h)
+
+  pub next_warned : (i : ℕ) (x : X) (so_far here all : List LinkerError) → i < length items → x ≡ get_or items i x → AreBegun defs names (map f (drop i items)) (map said_by so_far) →
+      AreWarningsOn defs (f x) (map said_by here) → all ≡ so_far ++ here → AreBegun defs names (map f (drop (i + 1) items)) (map said_by all)
+  next_warned i x so_far here all lt is so on e later h =
+      let first : drop i items ≡ x ∷ drop (i + 1) items = drop_more items i x lt ∙ ap (λ y. y ∷ drop (i + 1) items) (sym is) in
+      let with_here = subst (λ ys. AreWarningsOf defs (map f ys) (map said_by here ++ later)) (sym first) (on_each on h) in
+      let told : map said_by all ≡ map said_by so_far ++ map said_by here = ap (map said_by) e ∙ map-append said_by so_far here in
+      subst (AreWarningsOf defs names) (sym (append_assoc (map said_by so_far) (map said_by here) later) ∙ ap (λ ws. ws ++ later) (sym told)) (so (map said_by here ++ later) with_here)
+
+  pub all_warned : (i : ℕ) (so_far : List LinkerError) → length items ≤ i → AreBegun defs names (map f (drop i items)) (map said_by so_far) → AreWarningsOf defs names (map said_by so_far)
+  all_warned i so_far le so =
+      subst (AreWarningsOf defs names) (append-nil (map said_by so_far)) (so [] (subst (λ ys. AreWarningsOf defs (map f ys) []) (sym (drop_all i items le)) no_names))
+
+-- ---- which definitions lead to no circle
+
+module _ {X : Type 0} (f : X → List ℕ) (P : List ℕ → Bool → Type 0) where
+  pub free_at : (items : List X) (free : List Bool) (i : ℕ) (x : X) → AllZip P (map f items) free → i < length items → x ≡ get_or items i x → P (f x) (get_or free i false)
+  free_at [] free i x all lt is = absurd (omega (arith, lt))
+  free_at (y ∷ items) [] i x all lt is = absurd all
+  free_at (y ∷ items) (c ∷ free) zero x all lt is = subst (λ z. P (f z) c) (sym is) all.0
+  free_at (y ∷ items) (c ∷ free) (suc i) x all lt is = free_at items free i x all.1 (omega (arith, lt)) is
+
+  pub free_there : (items : List X) (free : List Bool) (i : ℕ) → AllZip P (map f items) free → i < length items → i < length free
+  free_there [] free i all lt = absurd (omega (arith, lt))
+  free_there (y ∷ items) [] i all lt = absurd all
+  free_there (y ∷ items) (c ∷ free) zero all lt = omega arith
+  free_there (y ∷ items) (c ∷ free) (suc i) all lt = let l = free_there items free i all.1 (omega (arith, lt)) in omega (arith, l)

@@ -3,7 +3,7 @@ use Rattle.std.specs.Prelude.{◌≡◌, ◌↔◌, ℕ, List, map, Some, None}
 use Rattle.asn_tree.specs.declared.definitions.ToplevelDefinition.TheVariants.{TypeDef}
 use Rattle.asn_tree.specs.declared.definitions.ToplevelTypeDefinition.{ToplevelTypeDefinition}
 use Rattle.asn_tree.specs.declared.types.ASN1Type.{ASN1Type}
-use Rattle.asn_check.specs.Warnings.{Warning, AreWarnings, warnings_of}
+use Rattle.asn_check.specs.Warnings.{Warning, AreWarnings, AreWarningsOf}
 use Rattle.asn_meaning.specs.Accepts.{Accepts}
 use Rattle.asn_meaning.specs.Definitions.{type_named}
 use Rattle.asn_meaning.specs.Plain.{IsPlain}
@@ -37,7 +37,7 @@ LinkedKeepsMeaning = (reading : List Module) (linked : Definitions) → AreLinke
 
 -- The warnings name by name, over the definitions that stand, are exactly those that are due, in order.
 abbrev pub WarningsAreDue : Type 0
-WarningsAreDue = (defs standing : Definitions) → IsStanding defs standing → AreWarnings defs (warnings_of defs (map name_of standing))
+WarningsAreDue = (defs standing : Definitions) (warnings : List Warning) → IsStanding defs standing → AreWarningsOf defs (map name_of standing) warnings → AreWarnings defs warnings
 
 -- No two lists are the warnings over the same definitions.
 abbrev pub OneListOfWarnings : Type 0

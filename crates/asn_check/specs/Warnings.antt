@@ -11,9 +11,9 @@ use Rattle.asn_faults.specs.declared.errors.LinkerError.{LinkerError}
 use Rattle.asn_faults.specs.declared.errors.LinkerErrorType.{LinkerErrorType}
 use Rattle.asn_faults.specs.declared.errors.LinkerErrorType.TheVariants as kind
 use Rattle.asn_names.specs.declared.faults.Fault.{Fault}
-use Rattle.asn_names.specs.declared.faults.Fault.TheVariants.{MissingDependency, NotYetInplemented}
+use Rattle.asn_names.specs.declared.faults.Fault.TheVariants.{Argument, MissingDependency, NotYetInplemented}
 use Rattle.asn_index.specs.Definitions.{Definitions, is_duplicate, last_named}
-use Rattle.asn_names.specs.Faults.{fault_of}
+use Rattle.asn_names.specs.Faults.{HasFault}
 
 -- what a warning says, its words aside
 pub record Warning : Type 0 where
@@ -33,6 +33,7 @@ refused name k = record { name = Some name; kind = kind.Unknown; grammar = Some 
 
 -- the warning that tells a fault of the definition that stands for the name
 abbrev pub warning_for : List ℕ → Fault → Warning
+warning_for name Argument = warning name kind.Argument
 warning_for name MissingDependency = warning name kind.MissingDependency
 warning_for name NotYetInplemented = refused name grammar.NotYetInplemented
 
@@ -41,7 +42,7 @@ warning_for name NotYetInplemented = refused name grammar.NotYetInplemented
 -- A warning is due of the fault that stands in the definition that stands for a name, and of Duplicate where several
 -- definitions have the name. No other is.
 pub data IsDue (defs : Definitions) : Warning → Type 0 where
-  of_its_fault : (name : List ℕ) (d : ToplevelDefinition) (f : Fault) → last_named defs name ≡ Some d → fault_of defs d ≡ Some f → IsDue defs (warning_for name f)
+  of_its_fault : (name : List ℕ) (d : ToplevelDefinition) (f : Fault) → last_named defs name ≡ Some d → HasFault defs name d (Some f) → IsDue defs (warning_for name f)
   of_several : (name : List ℕ) → is_duplicate defs name ≡ true → IsDue defs (warning name kind.Duplicate)
 
 -- the first name is below the second in byte order
@@ -68,20 +69,19 @@ of_fault name (Some f) = warning_for name f ∷ []
 abbrev pub of_duplicate : List ℕ → Bool → List Warning
 of_duplicate name several = if several then warning name kind.Duplicate ∷ [] else []
 
-abbrev pub fault_at : Definitions → Option ToplevelDefinition → Option Fault
-fault_at defs None = None
-fault_at defs (Some d) = fault_of defs d
-
--- the fault of the definition that stands for the name
-abbrev pub fault_on : Definitions → List ℕ → Option Fault
-fault_on defs name = fault_at defs (last_named defs name)
+-- the fault of a definition of the name, where there is one
+abbrev pub IsFaultOf : Definitions → List ℕ → Option ToplevelDefinition → Option Fault → Type 0
+IsFaultOf defs name None fault = fault ≡ None
+IsFaultOf defs name (Some d) fault = HasFault defs name d fault
 
 -- All warnings on a name: the fault of the definition that stands for it, then that others of the name stand before it.
-unfoldable pub warnings_on : Definitions → List ℕ → List Warning
-warnings_on defs name =
-    of_fault name (fault_on defs name) ++ of_duplicate name (is_duplicate defs name)
+pub record AreWarningsOn (defs : Definitions) (name : List ℕ) (warnings : List Warning) : Type 0 where
+  pub fault : Option Fault
+  pub found : IsFaultOf defs name (last_named defs name) fault
+  pub told : warnings ≡ of_fault name fault ++ of_duplicate name (is_duplicate defs name)
 
 -- all warnings, name by name
-abbrev pub warnings_of : Definitions → List (List ℕ) → List Warning
-warnings_of defs [] = []
-warnings_of defs (name ∷ names) = warnings_on defs name ++ warnings_of defs names
+pub data AreWarningsOf (defs : Definitions) : List (List ℕ) → List Warning → Type 0 where
+  no_names : AreWarningsOf defs [] []
+  on_each : {name : List ℕ} {names : List (List ℕ)} {here later : List Warning} → AreWarningsOn defs name here → AreWarningsOf defs names later →
+      AreWarningsOf defs (name ∷ names) (here ++ later)

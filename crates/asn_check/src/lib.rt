@@ -4,6 +4,7 @@
 #![tactic(auto)]
 
 mod given;
+mod judging;
 mod laws;
 mod lines;
 mod link;

@@ -1,13 +1,15 @@
 //! The warnings of a linked answer.
 
-ghost use Rattle.asn_check.specs.Warnings.{fault_on, of_duplicate, of_fault, refused, said_by, warning, warning_for, warnings_of, warnings_on};
-ghost use Rattle.asn_index.specs.Definitions.{name_of};
-ghost use Rattle.std.specs.Prelude.{◌≡◌, ◌++◌, IfOk, OnOk, map};
+ghost use Rattle.asn_check.specs.Warnings.{AreWarningsOf, AreWarningsOn, IsFaultOf, of_duplicate, of_fault, refused, said_by, warning, warning_for};
+ghost use Rattle.asn_circles.specs.Circles.{FreeAre, LeadsToNoCircle};
+ghost use Rattle.asn_index.specs.Definitions.{last_named, name_of};
+ghost use Rattle.std.specs.Prelude.{◌≡◌, ◌↔◌, ◌++◌, IfOk, IsTrue, OnOk, map};
 
+use crate::judging::fault_of;
 use asn_copy_trees::copy_text;
 use asn_index::Names;
 use asn_memory::{List, Mem, Text};
-use asn_names::{Fault, fault_of};
+use asn_names::Fault;
 use asn_tree::{GrammarErrorType, LinkerError, LinkerErrorType, ToplevelDefinition};
 use std::alloc::Global;
 
@@ -50,6 +52,7 @@ fn warn_of(alloc: Global, name: &Text, fault: Fault) -> Mem<LinkerError>
     ensures { IfOk result (λ w. said_by w ≡ warning_for name.now fault) }
 {
     match fault {
+        Fault::Argument => warn(alloc, name, LinkerErrorType::Argument),
         Fault::MissingDependency => warn(alloc, name, LinkerErrorType::MissingDependency),
         Fault::NotYetInplemented => refuse(alloc, name),
     }
@@ -71,11 +74,17 @@ fn warn_of_fault(
 }
 
 /// The fault of the definition that stands for the name.
-fn standing_fault(alloc: Global, names: &Names<'_>, name: &str) -> Mem<Option<Fault>>
-    ensures { IfOk result (λ fault. fault ≡ fault_on names.now.definitions.now name.now) }
+///
+/// Err: want of memory.
+fn standing_fault(alloc: Global, names: &Names<'_>, name: &str, is_free: bool) -> Mem<Option<Fault>>
+    requires { IsTrue is_free ↔ LeadsToNoCircle names.now.definitions.now name.now }
+    ensures { IfOk result (λ fault. IsFaultOf names.now.definitions.now name.now (last_named names.now.definitions.now name.now) fault) }
 {
     match names.last_named(name) {
-        Some(definition) => fault_of(alloc, names, definition),
+        Some(definition) => {
+            let fault = fault_of(alloc, names, name, definition, is_free)?;
+            Ok(fault)
+        }
         None => Ok(None),
     }
 }
@@ -96,33 +105,42 @@ fn warn_of_duplicate(
     }
 }
 
-/// Adds all warnings on a name.
-#[tactic(auto, unfolding(crate::specs::Warnings::warnings_on))]
-fn warn_on(
+/// All warnings on a name.
+///
+/// Err: want of memory.
+fn warnings_on(
     alloc: Global,
-    warnings: &mut List<LinkerError>,
     names: &Names<'_>,
     name: &Text,
-) -> Mem<()>
-    ensures { OnOk result (map said_by warnings.new ≡ map said_by warnings.old ++ warnings_on names.now.definitions.now name.now) }
+    is_free: bool,
+) -> Mem<List<LinkerError>>
+    requires { IsTrue is_free ↔ LeadsToNoCircle names.now.definitions.now name.now }
+    ensures { IfOk result (λ ws. AreWarningsOn names.now.definitions.now name.now (map said_by ws)) }
 {
-    let fault = standing_fault(alloc, names, name.as_str())?;
-    warn_of_fault(alloc, warnings, name, fault)?;
+    let fault = standing_fault(alloc, names, name.as_str(), is_free)?;
+    let mut warnings = List::new(alloc);
+    warn_of_fault(alloc, &mut warnings, name, fault)?;
     let several = names.is_duplicate(name.as_str());
-    warn_of_duplicate(alloc, warnings, name, several)
+    warn_of_duplicate(alloc, &mut warnings, name, several)?;
+    Ok(warnings)
 }
 
-/// All warnings on the names of these definitions, in their order.
+/// All warnings on the names of these definitions, in their order; `free` tells of each whether it leads to no circle.
+///
+/// Err: want of memory.
 pub(crate) fn warnings_on_all(
     alloc: Global,
     names: &Names<'_>,
     definitions: &[&ToplevelDefinition],
+    free: &[bool],
 ) -> Mem<List<LinkerError>>
-    ensures { IfOk result (λ ws. map said_by ws ≡ warnings_of names.now.definitions.now (map (λ d. name_of d.now) definitions.now)) }
+    requires { FreeAre names.now.definitions.now (map (λ d. name_of d.now) definitions.now) free.now }
+    ensures { IfOk result (λ ws. AreWarningsOf names.now.definitions.now (map (λ d. name_of d.now) definitions.now) (map said_by ws)) }
 {
     let mut warnings = List::new(alloc);
-    for definition in definitions {
-        warn_on(alloc, &mut warnings, names, definition.name())?;
+    for (i, definition) in definitions.iter().enumerate() {
+        let here = warnings_on(alloc, names, definition.name(), free[i])?;
+        warnings.append(here)?;
     }
     Ok(warnings)
 }

@@ -1,4 +1,5 @@
--- Every tree is decided under the type of a clean definition of basic forms, within steps that the heights of names tell.
+-- Every tree is decided under the type of a definition of basic forms in which a type stands for each type reference, within steps
+-- that the heights of names tell.
 use Rattle.std.proofs.Common.{◌≡◌, ℕ, zero, suc, ◌+◌, ◌≤◌, List, [], ◌∷◌, Bool, true, false, Option, Some, None, refl, sym, ap, ◌∙◌, subst, arith}
 use Rattle.std.specs.Prelude.{◌&&◌, ◌||◌, is_none, if◌then◌else◌}
 use Rattle.std.specs.List.{All, Contains, list_all, list_any}
@@ -34,11 +35,10 @@ use Rattle.asn_needs.specs.Sites.{Seen, seen, Node, ToDefinition}
 use Rattle.asn_index.specs.Definitions.{is_named}
 use Rattle.asn_names.specs.Definitions.{Definitions, last_named, type_of}
 use Rattle.asn_names.specs.Decided.{HasHeights, IsDecidedIn, IsYesOrNo, steps_of, steps_of_fields}
-use Rattle.asn_names.specs.Faults.{IsClean, IsSpotless, is_missing}
+use Rattle.asn_names.specs.Faults.{HasTypes, is_missing, lacks_type}
 use Rattle.asn_names.specs.Occurrences.{names_of, Reaches, occurs, goes_on}
 use Rattle.asn_unchanged.specs.References.{names_in}
 use Rattle.asn_names.proofs.HeadEdges.{head_edge, no_lists}
-use Rattle.asn_names.proofs.Faultless.{nothing_missing}
 use Rattle.asn_names.proofs.Occurrences.{level_names, members_names, names_are, names_is}
 use Rattle.asn_index.proofs.Seen.{or_else, type_is_last, type_is_seen}
 use Rattle.asn_names.proofs.Settled.{AlwaysLeadsTo, IsAlwaysHead, IsThere, OwnBasic, Settled, all_known_from, answer_known, basic_append, before_further, before_head, both_known, both_true, settled_further, settled_head}
@@ -153,9 +153,9 @@ module _ (defs : Definitions) where
       (subst (λ o. IsYesOrNo (once Unknown o (λ q. all_hold M Empty q (numbers_before defs M p) (all_constraints p cs) t))) (sym head.1)
       (all_known_from defs k h Empty head.0 (numbers_before defs M p) (all_constraints p cs) t (basic_append defs (listed (constraints_at (out-ASN1Type ty))) cs (own_basic ty b) basic) before))
 
--- ---- what a clean definition reaches
+-- ---- what a definition reaches in which a type stands for each type reference
 
-module _ (defs : Definitions) (basic : AreBasic defs) (d : ToplevelDefinition) (clean : IsClean defs d) (h : ℕ) (heights : HasHeights defs h d) where
+module _ (defs : Definitions) (basic : AreBasic defs) (d : ToplevelDefinition) (types : HasTypes defs d) (h : ℕ) (heights : HasHeights defs h d) where
   -- a type stands for a name
   abbrev Typed : Option ToplevelTypeDefinition → Type 0
   Typed o = (e : ToplevelTypeDefinition) × (o ≡ Some e)
@@ -164,12 +164,12 @@ module _ (defs : Definitions) (basic : AreBasic defs) (d : ToplevelDefinition) (
   is_typed None h = absurd cc
   is_typed (Some e) h = (e, refl)
 
-  spotless_seen : (e : ToplevelDefinition) → IsSpotless defs e → (x : List ℕ) → Contains (names_of e) x → Typed (type_named defs x)
-  spotless_seen e spotless x c = is_typed (type_named defs x) (any_false (is_missing defs) (names_of e) x c (nothing_missing defs e spotless.faultless))
+  named_seen : (e : ToplevelDefinition) → lacks_type defs e ≡ false → (x : List ℕ) → Contains (names_of e) x → Typed (type_named defs x)
+  named_seen e none x c = is_typed (type_named defs x) (any_false (is_missing defs) (names_of e) x c none)
 
   reached_seen : (x : List ℕ) → Reaches defs d x → Typed (type_named defs x)
-  reached_seen x (occurs c) = spotless_seen d clean.itself x c
-  reached_seen x (goes_on {x = z} {e = e} r s c) = spotless_seen e (clean.reached z e r s) x c
+  reached_seen x (occurs c) = named_seen d types.itself x c
+  reached_seen x (goes_on {x = z} {e = e} r s c) = named_seen e (types.reached z e r s) x c
 
   basic_named : (x : List ℕ) (e : ToplevelTypeDefinition) → type_named defs x ≡ Some e → IsBasicDefinition (TypeDef e)
   basic_named x e is = of_last IsBasicDefinition defs basic x (TypeDef e) (type_is_last defs x e is)

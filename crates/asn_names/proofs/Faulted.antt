@@ -1,6 +1,6 @@
 -- The faults of definitions of basic form, as they stand in the relation of needs.
-use Rattle.std.proofs.Common.{◌≡◌, ℕ, zero, suc, ◌+◌, ◌<◌, List, [], ◌∷◌, Bool, true, false, Option, Some, None, refl, sym, ap, ◌∙◌, subst, arith}
-use Rattle.std.specs.Prelude.{ℤ, ◌&&◌, ◌||◌, is_none, is_some, not, codes, if◌then◌else◌}
+use Rattle.std.proofs.Common.{◌≡◌, inl, ℕ, zero, suc, ◌+◌, ◌<◌, List, [], ◌∷◌, Bool, true, false, Option, Some, None, refl, sym, ap, ◌∙◌, subst, arith}
+use Rattle.std.specs.Prelude.{◌↔◌, ℤ, ◌&&◌, ◌||◌, is_none, is_some, not, codes, if◌then◌else◌}
 use Rattle.std.specs.List.{All, Contains, list_any}
 use Rattle.std.specs.Str.{bytes_eq}
 use Rattle.std.proofs.lemmas.List.Elements.{All-contains, All-weaker}
@@ -36,13 +36,12 @@ use Rattle.asn_needs.proofs.Passing.{none_passes, passes, some_passes}
 use Rattle.asn_names.specs.declared.faults.Fault.{Fault as Warned}
 use Rattle.asn_names.specs.declared.faults.Fault.TheVariants as warned
 use Rattle.asn_names.specs.Definitions.{Definitions, last_named}
-use Rattle.asn_names.specs.Faults.{fault_of, is_missing}
+use Rattle.asn_names.specs.Faults.{HasFault, is_judged, first_fault, is_missing}
 use Rattle.asn_names.specs.Laws.{FaultsStand}
 use Rattle.asn_names.specs.Needed.{stands_as, type_occurrence}
 use Rattle.asn_unchanged.specs.References.{names_in}
 use Rattle.asn_unchanged.specs.Unchanged.{is_unchanged}
-use Rattle.asn_names.proofs.Faultless.{fault_is}
-use Rattle.asn_names.proofs.Occurrences.{type_names_are}
+use Rattle.asn_names.proofs.Faultless.{one_fault}
 use Rattle.asn_names.proofs.Decided.{of_last}
 use Rattle.asn_names.proofs.Places.{IsBasicForm, IsBasicSite, IsNamed, instance_none, name_occurs, place_basic, place_names, same_either, type_lacks_nothing}
 use Rattle.asn_names.proofs.Settled.{end_there}
@@ -281,24 +280,15 @@ module _ (stay : HeadsStay) (defs : Definitions) (basic : AreBasic defs) (n : �
 
   -- ---- the fault
 
-  abbrev IsWarnedAs : Fault → Type 0
-  IsWarnedAs k = (f : Warned) × (fault_of defs (TypeDef d) ≡ Some f) × (k ≡ stands_as f)
-
-  missing_warned : is_unchanged (TypeDef d) ≡ true → list_any (is_missing defs) (names_in d.ty) ≡ true → IsWarnedAs MissingDependency
-  missing_warned unchanged h = (
-    warned.MissingDependency,
-    fault_is defs (TypeDef d) unchanged ∙ ap (λ c. if c then Some warned.MissingDependency else None) (ap (list_any (is_missing defs)) (type_names_are d) ∙ h),
-    refl,
-  )
-
-  stands_warned : is_unchanged (TypeDef d) ≡ true → (IsCyclic S (ToDefinition name) → ⊥) → has_reversed_range S (ToDefinition name) ≡ false → {k : Fault} → Stands S (ToDefinition name) k → IsWarnedAs k
-  stands_warned unchanged free ordered (a_cycle c) = absurd (no_cycle free c)
-  stands_warned unchanged free ordered (a_wrong_argument h) = absurd (no_argument h)
-  stands_warned unchanged free ordered (a_missing_name h) = missing_warned unchanged (missing_found h)
-  stands_warned unchanged free ordered (a_form_not_linked h) = absurd (no_form h)
-  stands_warned unchanged free ordered (a_syntax_not_followed t h) = absurd (no_syntax h)
-  stands_warned unchanged free ordered (a_value_without_tree t h) = absurd (no_value h)
-  stands_warned unchanged free ordered (a_reversed_range h) = absurd (not_both (has_reversed_range S (ToDefinition name)) h ordered)
+  -- nothing else stands than a missing name
+  stands_missing : (IsCyclic S (ToDefinition name) → ⊥) → has_reversed_range S (ToDefinition name) ≡ false → {k : Fault} → Stands S (ToDefinition name) k → (k ≡ MissingDependency) × (list_any (is_missing defs) (names_in d.ty) ≡ true)
+  stands_missing free ordered (a_cycle c) = absurd (no_cycle free c)
+  stands_missing free ordered (a_wrong_argument h) = absurd (no_argument h)
+  stands_missing free ordered (a_missing_name h) = (refl, missing_found h)
+  stands_missing free ordered (a_form_not_linked h) = absurd (no_form h)
+  stands_missing free ordered (a_syntax_not_followed t h) = absurd (no_syntax h)
+  stands_missing free ordered (a_value_without_tree t h) = absurd (no_value h)
+  stands_missing free ordered (a_reversed_range h) = absurd (not_both (has_reversed_range S (ToDefinition name)) h ordered)
 
   nothing_before : (IsCyclic S (ToDefinition name) → ⊥) → {j : Fault} → rank j < 3 → Stands S (ToDefinition name) j → ⊥
   nothing_before free lt (a_cycle c) = no_cycle free c
@@ -317,31 +307,53 @@ module _ (stay : HeadsStay) (defs : Definitions) (basic : AreBasic defs) (n : �
         judged = λ late y needs j lt stands. absurd (omega (arith, late));
       }
 
+  argument_told : IsSomewhere S (ToDefinition name) argument_wrong ↔ (false ≡ true)
+  argument_told = (λ h. absurd (no_argument h), λ e. absurd cc)
+
+  missing_told : IsSomewhere S (ToDefinition name) name_missing ↔ (list_any (is_missing defs) (names_in d.ty) ≡ true)
+  missing_told = (missing_found, found_missing)
+
 -- ---- whatever the number of steps
+
+-- the fault of a definition that linking leaves as it is
+fault_found : HeadsStay → (defs : Definitions) → AreBasic defs → (name : List ℕ) (d : ToplevelTypeDefinition) → last_named defs name ≡ Some (TypeDef d) → IsBasicDefinition (TypeDef d) → is_unchanged (TypeDef d) ≡ true →
+    HasFault defs name (TypeDef d) (if list_any (is_missing defs) (names_in d.ty) then Some warned.MissingDependency else None)
+fault_found stay defs basic name d is b unchanged =
+    is_judged false (list_any (is_missing defs) (names_in d.ty)) (inl unchanged) (0, λ m. argument_told stay defs basic (0 + m) name d is b) (0, λ m. missing_told stay defs basic (0 + m) name d is b)
+    (sym (ap (first_fault false (list_any (is_missing defs) (names_in d.ty))) unchanged))
 
 pub faults_stand : HeadsStay → FaultsStand
 faults_stand stay defs basic name (Value d) is unchanged acyclic ordered k = absurd (of_last IsBasicDefinition defs basic name (Value d) is)
 faults_stand stay defs basic name (Information d) is unchanged acyclic ordered k = absurd (of_last IsBasicDefinition defs basic name (Information d) is)
 faults_stand stay defs basic name (TypeDef d) is unchanged acyclic ordered k = (to, from)
   where
-    to : FaultOf defs (ToDefinition name) k → (f : Warned) × (fault_of defs (TypeDef d) ≡ Some f) × (k ≡ stands_as f)
+    b : IsBasicDefinition (TypeDef d)
+    b = of_last IsBasicDefinition defs basic name (TypeDef d) is
+
+    found : HasFault defs name (TypeDef d) (if list_any (is_missing defs) (names_in d.ty) then Some warned.MissingDependency else None)
+    found = fault_found stay defs basic name d is b unchanged
+
+    to : FaultOf defs (ToDefinition name) k → (f : Warned) × HasFault defs name (TypeDef d) (Some f) × (k ≡ stands_as f)
     to (n, fault) =
         let n' = n + acyclic.0 + ordered.0 in
         let of_cycle : acyclic.0 + (n + ordered.0) ≡ n + acyclic.0 + ordered.0 = omega arith in
         let of_order : ordered.0 + (n + acyclic.0) ≡ n + acyclic.0 + ordered.0 = omega arith in
         let of_fault : n + (acyclic.0 + ordered.0) ≡ n + acyclic.0 + ordered.0 = omega arith in
-        stands_warned stay defs basic n' name d is (of_last IsBasicDefinition defs basic name (TypeDef d) is) unchanged
+        let missing =
+        stands_missing stay defs basic n' name d is b
         (subst (λ i. IsCyclic (seen defs i) (ToDefinition name) → ⊥) of_cycle (acyclic.1 (n + ordered.0)))
         (subst (λ i. has_reversed_range (seen defs i) (ToDefinition name) ≡ false) of_order (ordered.1 (n + acyclic.0)))
-        (subst (λ i. IsFault (seen defs i) (ToDefinition name) k) of_fault (fault (acyclic.0 + ordered.0))).stands
+        (subst (λ i. IsFault (seen defs i) (ToDefinition name) k) of_fault (fault (acyclic.0 + ordered.0))).stands in
+        (warned.MissingDependency, subst (λ c. HasFault defs name (TypeDef d) (if c then Some warned.MissingDependency else None)) missing.1 found, missing.0)
 
-    missing : (c : Bool) (f : Warned) → (if c then Some warned.MissingDependency else None) ≡ Some f → (c ≡ true) × (f ≡ warned.MissingDependency)
+    missing : (c : Bool) (f : Warned) → Some f ≡ (if c then Some warned.MissingDependency else None) → (c ≡ true) × (f ≡ warned.MissingDependency)
+    missing true warned.Argument e = absurd cc
     missing true warned.MissingDependency e = (refl, refl)
     missing true warned.NotYetInplemented e = absurd cc
     missing false f e = absurd cc
 
-    from : (f : Warned) × (fault_of defs (TypeDef d) ≡ Some f) × (k ≡ stands_as f) → FaultOf defs (ToDefinition name) k
-    from (f, e, same) =
-        let m = missing (list_any (is_missing defs) (names_in d.ty)) f (sym (fault_is defs (TypeDef d) unchanged ∙ ap (λ ns. if list_any (is_missing defs) ns then Some warned.MissingDependency else None) (type_names_are d)) ∙ e) in
+    from : (f : Warned) × HasFault defs name (TypeDef d) (Some f) × (k ≡ stands_as f) → FaultOf defs (ToDefinition name) k
+    from (f, fault, same) =
+        let m = missing (list_any (is_missing defs) (names_in d.ty)) f (one_fault defs name (TypeDef d) (Some f) (if list_any (is_missing defs) (names_in d.ty) then Some warned.MissingDependency else None) fault found) in
         subst (FaultOf defs (ToDefinition name)) (sym (same ∙ ap stands_as m.1))
-        (acyclic.0, λ i. is_fault stay defs basic (acyclic.0 + i) name d is (of_last IsBasicDefinition defs basic name (TypeDef d) is) (acyclic.1 i) m.0)
+        (acyclic.0, λ i. is_fault stay defs basic (acyclic.0 + i) name d is b (acyclic.1 i) m.0)

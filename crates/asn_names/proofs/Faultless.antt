@@ -1,32 +1,46 @@
 -- What is known of a definition by its fault.
-use Rattle.std.proofs.Common.{◌≡◌, Bool, true, false, Option, Some, None, refl, ap}
-use Rattle.std.specs.Prelude.{if◌then◌else◌}
-use Rattle.std.specs.List.{list_any}
+use Rattle.std.proofs.Common.{◌≡◌, ℕ, ◌+◌, List, Bool, true, false, Option, None, refl, sym, ap, ◌∙◌, subst, arith}
+use Rattle.std.specs.Prelude.{◌↔◌}
 use Rattle.asn_tree.specs.declared.definitions.ToplevelDefinition.{ToplevelDefinition}
-use Rattle.asn_unchanged.specs.References.{names_of}
+use Rattle.asn_needs.specs.Faults.{IsSomewhere}
+use Rattle.asn_needs.specs.Sites.{Seen, seen, Site, ToDefinition}
 use Rattle.asn_unchanged.specs.Unchanged.{is_unchanged}
 use Rattle.asn_names.specs.declared.faults.Fault.{Fault}
-use Rattle.asn_names.specs.declared.faults.Fault.TheVariants.{MissingDependency, NotYetInplemented}
 use Rattle.asn_names.specs.Definitions.{Definitions}
-use Rattle.asn_names.specs.Faults.{fault_of, is_missing, lack_of}
+use Rattle.asn_names.specs.Faults.{HasFault, is_judged, is_left, IsTold, first_fault}
 
--- of one that linking leaves as it is
-pub fault_is : (defs : Definitions) (d : ToplevelDefinition) → is_unchanged d ≡ true → fault_of defs d ≡ lack_of defs d
-fault_is defs d u = ap (λ b. if b then lack_of defs d else Some NotYetInplemented) u
-
-unchanged_if : (b : Bool) (o : Option Fault) → (if b then o else Some NotYetInplemented) ≡ None → b ≡ true
-unchanged_if true o h = refl
-unchanged_if false o h = absurd cc
+unchanged_if : (wrong missing unchanged : Bool) → None ≡ first_fault wrong missing unchanged → unchanged ≡ true
+unchanged_if true missing unchanged h = absurd cc
+unchanged_if false true unchanged h = absurd cc
+unchanged_if false false true h = refl
+unchanged_if false false false h = absurd cc
 
 -- one without a fault is left as it is
-pub unchanged_where_none : (defs : Definitions) (d : ToplevelDefinition) → fault_of defs d ≡ None → is_unchanged d ≡ true
-unchanged_where_none defs d h = unchanged_if (is_unchanged d) (lack_of defs d) h
+pub unchanged_where_none : (defs : Definitions) (name : List ℕ) (d : ToplevelDefinition) → HasFault defs name d None → is_unchanged d ≡ true
+unchanged_where_none defs name d (is_judged wrong missing j w m e) = unchanged_if wrong missing (is_unchanged d) e
+unchanged_where_none defs name d (is_left j e) = absurd cc
 
-lacks_if : (b c : Bool) → (if b then (if c then Some MissingDependency else None) else Some NotYetInplemented) ≡ None → c ≡ false
-lacks_if true true h = absurd cc
-lacks_if true false h = refl
-lacks_if false c h = absurd cc
+-- ---- one fault
 
--- and lacks no name
-pub nothing_missing : (defs : Definitions) (d : ToplevelDefinition) → fault_of defs d ≡ None → list_any (is_missing defs) (names_of d) ≡ false
-nothing_missing defs d h = lacks_if (is_unchanged d) (list_any (is_missing defs) (names_of d)) h
+same_truth : (a b : Bool) → ((a ≡ true) ↔ (b ≡ true)) → a ≡ b
+same_truth true true h = refl
+same_truth true false h = let bad = h.0 refl in absurd cc
+same_truth false true h = let bad = h.1 refl in absurd cc
+same_truth false false h = refl
+
+-- one truth is told
+pub told_once : (defs : Definitions) (name : List ℕ) (f : Seen → Site → Bool) (a b : Bool) → IsTold defs name f a → IsTold defs name f b → a ≡ b
+told_once defs name f a b (n, t) (k, u) =
+    let same : k + n ≡ n + k = omega arith in
+    let left = t k in
+    let right = subst (λ i. IsSomewhere (seen defs i) (ToDefinition name) f ↔ (b ≡ true)) same (u n) in
+    same_truth a b (λ e. right.0 (left.1 e), λ e. left.0 (right.1 e))
+
+pub one_fault : (defs : Definitions) (name : List ℕ) (d : ToplevelDefinition) (o p : Option Fault) → HasFault defs name d o → HasFault defs name d p → o ≡ p
+one_fault defs name d o p (is_judged a b j t u e) (is_judged a' b' j' t' u' e') =
+    let wrong = told_once defs name _ a a' t t' in
+    let missing = told_once defs name _ b b' u u' in
+    e ∙ ap (λ x. first_fault x b (is_unchanged d)) wrong ∙ ap (λ x. first_fault a' x (is_unchanged d)) missing ∙ sym e'
+one_fault defs name d o p (is_judged a b j t u e) (is_left j' e') = absurd (j' j)
+one_fault defs name d o p (is_left j e) (is_judged a' b' j' t' u' e') = absurd (j j')
+one_fault defs name d o p (is_left j e) (is_left j' e') = e ∙ sym e'

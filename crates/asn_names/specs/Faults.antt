@@ -1,29 +1,61 @@
 -- What is wrong with a definition.
-use Rattle.std.specs.Prelude.{◌≡◌, ℕ, List, Option, Some, None, is_none, if◌then◌else◌, Bool, false}
+use Rattle.std.specs.Prelude.{◌≡◌, ◌↔◌, ◌⊎◌, ℕ, List, Option, Some, None, is_none, if◌then◌else◌, Bool, true, false}
 use Rattle.std.specs.List.{list_any}
 use Rattle.asn_tree.specs.declared.definitions.ToplevelDefinition.{ToplevelDefinition}
 use Rattle.asn_names.specs.declared.faults.Fault.{Fault}
-use Rattle.asn_names.specs.declared.faults.Fault.TheVariants.{MissingDependency, NotYetInplemented}
+use Rattle.asn_names.specs.declared.faults.Fault.TheVariants.{Argument, MissingDependency, NotYetInplemented}
 use Rattle.asn_meaning.specs.Definitions.{see, type_named}
+use Rattle.asn_needs.specs.Arguments.{argument_wrong}
+use Rattle.asn_needs.specs.Faults.{IsSomewhere}
+use Rattle.asn_needs.specs.Missing.{name_missing}
+use Rattle.asn_needs.specs.Sites.{Eventually, Seen, seen, Site, ToDefinition}
+use Rattle.asn_circles.specs.Circles.{LeadsToNoCircle}
 use Rattle.asn_index.specs.Definitions.{Definitions, name_of, is_duplicate}
 use Rattle.asn_names.specs.Occurrences.{names_of, Reaches}
 use Rattle.asn_unchanged.specs.Unchanged.{is_unchanged}
+
+-- ---- type references
 
 -- whether the name stands for no type
 abbrev pub is_missing : Definitions → List ℕ → Bool
 is_missing defs name = is_none (type_named defs name)
 
 -- a type reference that occurs in the definition has no definition of a type (X.680 14.1)
-abbrev pub lack_of : Definitions → ToplevelDefinition → Option Fault
-lack_of defs d = if list_any (is_missing defs) (names_of d) then Some MissingDependency else None
+abbrev pub lacks_type : Definitions → ToplevelDefinition → Bool
+lacks_type defs d = list_any (is_missing defs) (names_of d)
 
--- The fault of a definition. One that linking would change is told as not linked, for a time, and nothing else is asked of it.
-abbrev pub fault_of : Definitions → ToplevelDefinition → Option Fault
-fault_of defs d = if is_unchanged d then lack_of defs d else Some NotYetInplemented
+-- A type stands for each type reference in the definition, and in all that it reaches by them.
+pub record HasTypes (defs : Definitions) (d : ToplevelDefinition) : Type 0 where
+  pub itself : lacks_type defs d ≡ false
+  pub reached : (x : List ℕ) (e : ToplevelDefinition) → Reaches defs d x → see defs x ≡ Some e → lacks_type defs e ≡ false
+
+-- ---- the fault of a definition
+
+-- So it is, from some number of steps on, at one of the places of the definition of the name, or at none, as the truth value tells.
+abbrev pub IsTold : Definitions → List ℕ → (Seen → Site → Bool) → Bool → Type 0
+IsTold defs name f told = Eventually (λ n. IsSomewhere (seen defs n) (ToDefinition name) f ↔ (told ≡ true))
+
+-- Linking judges a definition that it leaves as it is, and one that leads to no circle of names.
+abbrev pub IsJudged : Definitions → List ℕ → ToplevelDefinition → Type 0
+IsJudged defs name d = (is_unchanged d ≡ true) ⊎ LeadsToNoCircle defs name
+
+-- a wrong argument before a missing name; where neither stands, a definition that linking would change is not linked yet
+abbrev pub first_fault : Bool → Bool → Bool → Option Fault
+first_fault wrong missing unchanged =
+    if wrong then Some Argument else
+    if missing then Some MissingDependency else
+    if unchanged then None else Some NotYetInplemented
+
+-- The fault of a definition that stands for the name: of one that is judged, the first that stands at its places; for a time,
+-- one that is not judged is not linked.
+pub data HasFault (defs : Definitions) (name : List ℕ) (d : ToplevelDefinition) (fault : Option Fault) : Type 0 where
+  is_judged : (wrong missing : Bool) → IsJudged defs name d → IsTold defs name argument_wrong wrong → IsTold defs name name_missing missing →
+      fault ≡ first_fault wrong missing (is_unchanged d) → HasFault defs name d fault
+  is_left : (IsJudged defs name d → ⊥) → fault ≡ Some NotYetInplemented → HasFault defs name d fault
 
 -- No fault stands in the definition, and its name is defined once.
 pub record IsSpotless (defs : Definitions) (d : ToplevelDefinition) : Type 0 where
-  pub faultless : fault_of defs d ≡ None
+  pub faultless : HasFault defs (name_of d) d None
   pub alone : is_duplicate defs (name_of d) ≡ false
 
 -- Nothing is wrong with the definition, nor with any that it reaches.

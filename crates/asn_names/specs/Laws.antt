@@ -12,7 +12,7 @@ use Rattle.asn_needs.specs.Sites.{seen, ToDefinition}
 use Rattle.asn_names.specs.Decided.{HasHeights, IsDecidedIn, steps_of}
 use Rattle.asn_index.specs.Definitions.{IsStanding}
 use Rattle.asn_names.specs.Definitions.{Definitions, Module, definitions_of, last_named, type_of}
-use Rattle.asn_names.specs.Faults.{IsClean, fault_of}
+use Rattle.asn_names.specs.Faults.{HasFault, HasTypes}
 use Rattle.asn_names.specs.declared.faults.Fault.{Fault as Warned}
 use Rattle.asn_names.specs.Given.{IsGiven, given_definitions}
 use Rattle.asn_names.specs.Linked.{AreLinked}
@@ -22,11 +22,12 @@ use Rattle.asn_unchanged.specs.Unchanged.{is_unchanged}
 
 -- ---- trees are decided
 
--- Every tree is decided under the type of a clean definition, where all definitions have basic forms, within steps
--- computed from the tree and the heights of the names that the definition reaches.
+-- Every tree is decided under the type of a definition in which a type stands for each type reference, and for each that it
+-- reaches, where all definitions have basic forms, within steps computed from the tree and the heights of the names that the
+-- definition reaches.
 abbrev pub EveryTreeDecided : Type 0
 EveryTreeDecided =
-    (defs : Definitions) → AreBasic defs → (d : ToplevelDefinition) → IsBasicDefinition d → IsClean defs d →
+    (defs : Definitions) → AreBasic defs → (d : ToplevelDefinition) → IsBasicDefinition d → HasTypes defs d →
     (h : ℕ) → HasHeights defs h d → (ty : ASN1Type) → type_of d ≡ Some ty → (t : ValueTree) → IsDecidedIn defs (steps_of h t) ty t
 
 -- ---- names and faults in the relation of needs
@@ -44,7 +45,7 @@ abbrev pub FaultsStand : Type 0
 FaultsStand =
     (defs : Definitions) → AreBasic defs → (name : List ℕ) (d : ToplevelDefinition) → last_named defs name ≡ Some d →
     is_unchanged d ≡ true → IsAcyclic defs name → IsOrdered defs name →
-    (k : Fault) → FaultOf defs (ToDefinition name) k ↔ (f : Warned) × (fault_of defs d ≡ Some f) × (k ≡ stands_as f)
+    (k : Fault) → FaultOf defs (ToDefinition name) k ↔ (f : Warned) × HasFault defs name d (Some f) × (k ≡ stands_as f)
 
 -- ---- what linking gives
 

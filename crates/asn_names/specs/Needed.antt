@@ -3,7 +3,7 @@ use Rattle.std.specs.Prelude.{◌≡◌, ℕ, List, false, true, None, Some}
 use Rattle.asn_tree.specs.declared.definitions.ToplevelDefinition.{ToplevelDefinition}
 use Rattle.asn_meaning.specs.Scopes.{Empty}
 use Rattle.asn_needs.specs.Basic.{AreBasic}
-use Rattle.asn_needs.specs.Faults.{Fault, MissingDependency, NotYetInplemented, has_reversed_range}
+use Rattle.asn_needs.specs.Faults.{Fault, Argument, MissingDependency, NotYetInplemented, has_reversed_range}
 use Rattle.asn_needs.specs.Needs.{IsCyclic}
 use Rattle.asn_needs.specs.Occurrences.{Occurrence, NeedsType}
 use Rattle.asn_needs.specs.Sites.{Eventually, seen, ToDefinition}
@@ -18,6 +18,7 @@ type_occurrence name = record { need = NeedsType; name = name; has_list = false;
 
 -- the fault that linking warns of
 abbrev pub stands_as : Warned → Fault
+stands_as warned.Argument = Argument
 stands_as warned.MissingDependency = MissingDependency
 stands_as warned.NotYetInplemented = NotYetInplemented
 

@@ -6,9 +6,9 @@ ghost use Rattle.asn_names.specs.Laws.{EveryTreeDecided, FaultsStand, LastIsGive
 
 use asn_meaning::{environments_change_tags, heads_stay};
 
-/// Every tree is accepted or rejected by the type of a clean type definition, where all definitions have basic forms
-/// (BOOLEAN, INTEGER, SEQUENCE and plain names of types, with ranges of numbers): within steps computed from the tree and
-/// the heights, in the order of needs, of the names that the definition reaches.
+/// Every tree is accepted or rejected by the type of a definition in which a type stands for each type reference, and for each that
+/// it reaches, where all definitions have basic forms (BOOLEAN, INTEGER, SEQUENCE and plain names of types, with ranges of numbers):
+/// within steps computed from the tree and the heights, in the order of needs, of the names that the definition reaches.
 pub fn every_tree_decided()
     ensures { EveryTreeDecided }
 {}

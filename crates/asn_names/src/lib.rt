@@ -1,14 +1,15 @@
 //! What a definition reaches, what is wrong with it, and what the linked definitions of a reading are.
 //!
-//! It stands on the trees, on their meaning (asn_meaning), on the index of names (asn_index), which it hands on, and on what
-//! definitions need (asn_needs), and rewrites nothing: names are looked up. The layers above cite the definitions in specs/.
+//! It stands on the trees, on their meaning (asn_meaning), on the index of names (asn_index), which it hands on, on what definitions
+//! need (asn_needs), and on which lead to a circle (asn_circles), and rewrites nothing: names are looked up. It has no code but the
+//! laws; the layers above cite the definitions in specs/.
 #![tactic(auto)]
 
 mod faults;
 mod laws;
 
 pub use asn_index::{LastPlace, Names};
-pub use faults::{Fault, fault_of};
+pub use faults::Fault;
 pub use laws::{
     every_tree_decided, faults_stand, last_is_given, linked_differ_in_tags, names_occur,
     standing_are_linked,

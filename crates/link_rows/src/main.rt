@@ -23,7 +23,7 @@ use crate::lines::{
 use crate::names::{write_names, write_place};
 use crate::out::{Fault, Told, say, write_number};
 use crate::rows::{Row, row_of};
-use crate::runs::{Varied, write_run, write_runs};
+use crate::runs::{Varied, write_run, write_runs, write_warned};
 use crate::streams::{
     write_given, write_own_source, write_reads, write_std, write_sure_given, write_sure_taken,
     write_taken,
@@ -38,6 +38,7 @@ use std::process::ExitCode;
 fn write_text_row(alloc: Global, out: &mut Vec<u8>, row: &Row, text: &[u8]) -> Told<()> {
     match row.kind {
         "run" => write_run(alloc, out, row, text),
+        "warned" => write_warned(alloc, out, row, text),
         "each-cut" => write_runs(alloc, out, row, text, Varied::Cut, 0, text.len()),
         "each-read" => write_runs(alloc, out, row, text, Varied::Read, 1, row.number),
         "each-write" => write_runs(alloc, out, row, text, Varied::Write, 1, row.number),

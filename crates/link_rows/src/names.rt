@@ -6,7 +6,7 @@ use crate::trees::write_listed;
 use asn_derivation::SpecError;
 use asn_memory::{List, Mem, OutOfMemory};
 use asn_modules::asn_spec;
-use asn_names::{Fault as NameFault, Names, fault_of};
+use asn_names::Names;
 use asn_text::{LexerError, LexerErrorType, ReportData};
 use asn_tree::{Reading, ToplevelDefinition};
 use std::alloc::Global;
@@ -122,26 +122,12 @@ fn write_name(alloc: Global, out: &mut Vec<u8>, names: &Names, name: &str) -> To
     )
 }
 
-fn fault_word(fault: Option<NameFault>) -> &'static str {
-    match fault {
-        None => "",
-        Some(NameFault::MissingDependency) => " (MissingDependency)",
-        Some(NameFault::NotYetInplemented) => " (NotYetInplemented)",
-    }
-}
-
-/// Writes the definitions that stand, each with its fault.
-fn write_standing(
-    alloc: Global,
-    out: &mut Vec<u8>,
-    names: &Names,
-    standing: &[&ToplevelDefinition],
-) -> Told<()> {
+/// Writes the definitions that stand.
+fn write_standing(out: &mut Vec<u8>, standing: &[&ToplevelDefinition]) -> Told<()> {
     say(out, "standing")?;
     for definition in standing {
         say(out, " ")?;
         say(out, definition.name().as_str())?;
-        say(out, fault_word(fault_of(alloc, names, definition)?))?;
     }
     say(out, "\n")
 }
@@ -157,7 +143,7 @@ fn write_all_names(
         write_name(alloc, out, &names, name)?;
     }
     let standing = names.standing(alloc)?;
-    write_standing(alloc, out, &names, standing.as_slice())
+    write_standing(out, standing.as_slice())
 }
 
 /// Writes what the names that the row asks for stand for in the text, and which definitions stand.

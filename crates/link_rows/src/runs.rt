@@ -1,5 +1,5 @@
-//! Whole runs: `run`, and `each-cut`, `each-read` and `each-write`, which run once for each cut of the text and for each failing read or
-//! write up to a number.
+//! Whole runs: `run`; `warned`, which tells the warnings alone; and `each-cut`, `each-read` and `each-write`, which run once for each cut
+//! of the text and for each failing read or write up to a number.
 //!
 //! An answer is the number of the status and what was written; between them stands for `run` how many bytes of the text were not read,
 //! where there are some.
@@ -59,6 +59,30 @@ pub(crate) fn write_run(alloc: Global, out: &mut Vec<u8>, row: &Row, text: &[u8]
     write_unread(alloc, out, &mut source)?;
     say(out, ": ")?;
     write_bytes(alloc, out, sink.bytes())?;
+    say(out, "\n")
+}
+
+/// Writes the warnings in a listing, each behind a semicolon.
+fn write_warnings(out: &mut Vec<u8>, listing: &str) -> Told<()> {
+    for line in listing.split("\n") {
+        if let Some(warning) = line.strip_prefix("warning ") {
+            say(out, "; ")?;
+            say(out, warning)?;
+        }
+    }
+    Ok(())
+}
+
+/// Writes the status of a run and its warnings.
+pub(crate) fn write_warned(alloc: Global, out: &mut Vec<u8>, row: &Row, text: &[u8]) -> Told<()> {
+    let mut source = ListSource::new(text, at_least_one(row.reads), &[]);
+    let mut sink = ListSink::new(alloc, row.room, at_least_one(row.writes), &[])?;
+    let status = run_to_status(alloc, row.words.as_slice(), &mut source, &mut sink);
+    write_number(alloc, out, usize::from(status.number()))?;
+    match std::str::from_utf8(sink.bytes()) {
+        Ok(listing) => write_warnings(out, listing)?,
+        Err(_) => say(out, "; no text")?,
+    }
     say(out, "\n")
 }
 

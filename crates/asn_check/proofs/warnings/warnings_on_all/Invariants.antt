@@ -1,7 +1,8 @@
-use Rattle.std.proofs.Common.{◌≡◌, ◌++◌, drop, map}
-use Rattle.asn_check.specs.Warnings.{said_by, warnings_of}
+use Rattle.std.proofs.Common.{map, drop}
+use Rattle.asn_check.specs.Warnings.{said_by}
 use Rattle.asn_index.specs.Definitions.{name_of}
+use Rattle.asn_check.proofs.Warned.{AreBegun}
 use Rattle.asn_check.proofs.warnings.warnings_on_all.Given as goal
 
-abbrev pub invariant-loop-definition : goal.invariant-loop-definition
-invariant-loop-definition l = map said_by l.warnings ++ warnings_of l.names.definitions.now (map (λ d. name_of d.now) (drop l.definition-index l.definitions)) ≡ warnings_of l.names.definitions.now (map (λ d. name_of d.now) l.definitions)
+abbrev pub invariant-loop-i : goal.invariant-loop-i
+invariant-loop-i l = AreBegun l.names.definitions.now (map (λ d. name_of d.now) l.definitions) (map (λ d. name_of d.now) (drop l.i l.definitions)) (map said_by l.warnings)

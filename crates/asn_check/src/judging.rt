@@ -1,0 +1,72 @@
+//! The fault of a definition, by its places.
+
+ghost use Rattle.asn_circles.specs.Circles.{LeadsToNoCircle};
+ghost use Rattle.asn_index.specs.Definitions.{last_named};
+ghost use Rattle.asn_names.specs.Faults.{first_fault, HasFault, IsJudged};
+ghost use Rattle.std.specs.Prelude.{◌≡◌, ◌↔◌, true, IfOk, IsTrue, Some};
+
+use asn_index::Names;
+use asn_memory::Mem;
+use asn_names::Fault;
+use asn_node_sites::Node;
+use asn_place_faults::{PlaceFaults, place_faults};
+use asn_tree::ToplevelDefinition;
+use asn_unchanged::is_unchanged;
+use std::alloc::Global;
+
+/// Within how many steps the places of a definition are computed. One that leads through more definitions to a head is answered by want
+/// of memory.
+const STEPS: usize = 2_000;
+
+/// The fault of a definition that is judged: a wrong argument before a missing name; where neither stands, one that linking would
+/// change is not linked yet.
+fn first_fault(found: PlaceFaults, unchanged: bool) -> Option<Fault>
+    ensures { result ≡ first_fault found.wrong_argument found.missing_name unchanged }
+{
+    if found.wrong_argument {
+        Some(Fault::Argument)
+    } else if found.missing_name {
+        Some(Fault::MissingDependency)
+    } else if unchanged {
+        None
+    } else {
+        Some(Fault::NotYetInplemented)
+    }
+}
+
+/// The fault of the definition that stands for a name, where it is judged.
+///
+/// Err: want of memory.
+fn judged_fault(
+    alloc: Global,
+    names: &Names<'_>,
+    name: &str,
+    definition: &ToplevelDefinition,
+) -> Mem<Option<Fault>>
+    requires { IsJudged names.now.definitions.now name.now definition.now }
+    ensures { IfOk result (λ fault. HasFault names.now.definitions.now name.now definition.now fault) }
+{
+    let found = place_faults(alloc, names, STEPS, Node::ToDefinition(name))?;
+    Ok(first_fault(found, is_unchanged(definition)))
+}
+
+/// The fault of the definition that stands for a name.
+///
+/// Err: want of memory.
+pub(crate) fn fault_of(
+    alloc: Global,
+    names: &Names<'_>,
+    name: &str,
+    definition: &ToplevelDefinition,
+    is_free: bool,
+) -> Mem<Option<Fault>>
+    requires { IsTrue is_free ↔ LeadsToNoCircle names.now.definitions.now name.now }
+    ensures { IfOk result (λ fault. HasFault names.now.definitions.now name.now definition.now fault) }
+{
+    if is_free || is_unchanged(definition) {
+        let fault = judged_fault(alloc, names, name, definition)?;
+        Ok(fault)
+    } else {
+        Ok(Some(Fault::NotYetInplemented))
+    }
+}
