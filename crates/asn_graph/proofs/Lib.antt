@@ -9,3 +9,4 @@ pub mod Orders
 pub mod Passes
 pub mod TablesTold
 pub mod Visits
+pub mod Reaching

@@ -6,7 +6,7 @@ use Rattle.asn_graph.specs.inner.Valid.{StandsIn}
 use Rattle.asn_graph.specs.inner.Numbered.{Numbered}
 use Rattle.asn_graph.proofs.Needs.{before, edge_from, edge_to, free_iff, one_iff}
 
-has_at : (xs : List ℕ) (i : ℕ) → i < length xs → Has xs (get_or xs i 0)
+pub has_at : (xs : List ℕ) (i : ℕ) → i < length xs → Has xs (get_or xs i 0)
 has_at [] i h = absurd (omega arith)
 has_at (x ∷ xs) zero h = inl refl
 has_at (x ∷ xs) (suc i) h = inr (has_at xs i (omega arith))

@@ -1,2 +1,3 @@
 pub mod Graphs
+pub mod Reach
 pub mod inner

@@ -5,3 +5,4 @@ pub mod Starts
 pub mod State
 pub mod Told
 pub mod Valid
+pub mod Spread

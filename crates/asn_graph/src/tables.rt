@@ -31,7 +31,7 @@ fn number_of(mark: Mark) -> usize
 }
 
 // Where the node's edges start.
-fn start_of(starts: &[usize], node: usize) -> usize
+pub(crate) fn start_of(starts: &[usize], node: usize) -> usize
     requires { node + 1 < length starts.now }
     ensures { result ≡ slice_index starts.now node }
 {
