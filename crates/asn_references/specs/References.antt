@@ -1,4 +1,5 @@
--- The names in a definition that stand where a reference may stand: of a type, a value, a class, an object or an object set.
+-- The names in a definition that stand where a reference may stand: of a type, a value, a class, an object or an object set; all of
+-- them, or those in the types of defaults, in tables and in contents alone.
 -- They are more than the references: dummies, items of enumerations and named numbers that are written as a value's name are among
 -- them. No name that may be a reference is left out.
 use Rattle.std.specs.Prelude.{ℕ, List, [], ◌∷◌, ◌++◌, map, Option, Some, None}
@@ -40,188 +41,208 @@ use Rattle.asn_tree.specs.declared.types.SequenceOrSetMember.{SequenceOrSetMembe
 use Rattle.asn_tree.specs.declared.types.SequenceOrSetOf.{SequenceOrSetOf}
 use Rattle.asn_tree.specs.declared.values.ASN1Value.{ASN1Value, ASN1Value-F}
 use Rattle.asn_tree.specs.declared.values.LinkedField.{LinkedField}
+use Rattle.asn_references.specs.declared.wanted.Wanted.{Wanted}
+use Rattle.asn_references.specs.declared.wanted.Wanted.TheVariants.{Every, Followed}
 
 abbrev pub Names : Type 0
 Names = List (List ℕ)
 
--- one list after the other
-abbrev pub joined : List Names → Names
-joined [] = []
-joined (x ∷ xs) = x ++ joined xs
+-- the names in a part, by which of them are wanted
+abbrev pub NamesOf : Type 0
+NamesOf = Wanted → Names
+
+-- the names where every one is wanted; where those of defaults, tables and contents are, none
+abbrev pub each_name : Names → NamesOf
+each_name names Every = names
+each_name names Followed = []
+
+-- a name
+abbrev pub one_name : List ℕ → NamesOf
+one_name name w = each_name (name ∷ []) w
+
+-- those of one part after the other
+abbrev pub joined : List NamesOf → NamesOf
+joined [] w = []
+joined (x ∷ xs) w = x w ++ joined xs w
 
 -- a name, where there is one
-abbrev pub name_in : Option (List ℕ) → Names
-name_in None = []
-name_in (Some name) = name ∷ []
+abbrev pub name_in : Option (List ℕ) → NamesOf
+name_in None w = []
+name_in (Some name) w = one_name name w
 
 -- those of a part, where it stands
-abbrev pub present : Option Names → Names
-present None = []
-present (Some names) = names
+abbrev pub present : Option NamesOf → NamesOf
+present None w = []
+present (Some names) w = names w
 
 -- both parts of a path: the object and the field behind it (X.681 15); or a name alone
-abbrev pub path_names : Option (List ℕ) → List ℕ → Names
-path_names parent name = name_in parent ++ name ∷ []
+abbrev pub path_names : Option (List ℕ) → List ℕ → NamesOf
+path_names parent name w = name_in parent w ++ one_name name w
 
 -- such a name with what stands behind it
-abbrev pub reference_names : Option (List ℕ) → List ℕ → List Names → Names
-reference_names parent name cs = path_names parent name ++ joined cs
+abbrev pub reference_names : Option (List ℕ) → List ℕ → List NamesOf → NamesOf
+reference_names parent name cs w = path_names parent name w ++ joined cs w
+
+-- in the type of a default every name is wanted
+abbrev pub in_default : Option NamesOf → Wanted → Wanted
+in_default None w = w
+in_default (Some value) w = Every
 
 -- ---- types
 
 -- A selection names its CHOICE (X.680 30), a class's field its class (X.681 14); the option and the field are no references.
-abbrev pub type_names : TypeOf Names → Names
-type_names ASN1Type-F.ASN1Type::Null = []
-type_names (ASN1Type-F.ASN1Type::Boolean t) = joined t.constraints
-type_names (ASN1Type-F.ASN1Type::Integer t) = joined t.constraints
-type_names (ASN1Type-F.ASN1Type::Real t) = joined t.constraints
-type_names (ASN1Type-F.ASN1Type::BitString t) = joined t.constraints
-type_names (ASN1Type-F.ASN1Type::OctetString t) = joined t.constraints
-type_names (ASN1Type-F.CharacterString t) = joined t.constraints
-type_names (ASN1Type-F.Enumerated t) = joined t.constraints
-type_names (ASN1Type-F.ASN1Type::Choice c) = c
-type_names (ASN1Type-F.Sequence s) = s
-type_names (ASN1Type-F.SequenceOf l) = l
-type_names (ASN1Type-F.Set s) = s
-type_names (ASN1Type-F.SetOf l) = l
-type_names (ASN1Type-F.ASN1Type::Time t) = joined t.constraints
-type_names (ASN1Type-F.GeneralizedTime t) = joined t.constraints
-type_names (ASN1Type-F.UTCTime t) = joined t.constraints
-type_names (ASN1Type-F.ElsewhereDeclaredType r) = reference_names r.parent r.identifier r.constraints
-type_names (ASN1Type-F.ChoiceSelectionType s) = s.choice_name ∷ []
-type_names (ASN1Type-F.ASN1Type::ObjectIdentifier t) = joined t.constraints
-type_names (ASN1Type-F.InformationObjectFieldReference f) = f.class ∷ joined f.constraints
-type_names ASN1Type-F.EmbeddedPdv = []
-type_names ASN1Type-F.External = []
+abbrev pub type_names : TypeOf NamesOf → NamesOf
+type_names ASN1Type-F.ASN1Type::Null w = []
+type_names (ASN1Type-F.ASN1Type::Boolean t) w = joined t.constraints w
+type_names (ASN1Type-F.ASN1Type::Integer t) w = joined t.constraints w
+type_names (ASN1Type-F.ASN1Type::Real t) w = joined t.constraints w
+type_names (ASN1Type-F.ASN1Type::BitString t) w = joined t.constraints w
+type_names (ASN1Type-F.ASN1Type::OctetString t) w = joined t.constraints w
+type_names (ASN1Type-F.CharacterString t) w = joined t.constraints w
+type_names (ASN1Type-F.Enumerated t) w = joined t.constraints w
+type_names (ASN1Type-F.ASN1Type::Choice c) w = c w
+type_names (ASN1Type-F.Sequence s) w = s w
+type_names (ASN1Type-F.SequenceOf l) w = l w
+type_names (ASN1Type-F.Set s) w = s w
+type_names (ASN1Type-F.SetOf l) w = l w
+type_names (ASN1Type-F.ASN1Type::Time t) w = joined t.constraints w
+type_names (ASN1Type-F.GeneralizedTime t) w = joined t.constraints w
+type_names (ASN1Type-F.UTCTime t) w = joined t.constraints w
+type_names (ASN1Type-F.ElsewhereDeclaredType r) w = reference_names r.parent r.identifier r.constraints w
+type_names (ASN1Type-F.ChoiceSelectionType s) w = one_name s.choice_name w
+type_names (ASN1Type-F.ASN1Type::ObjectIdentifier t) w = joined t.constraints w
+type_names (ASN1Type-F.InformationObjectFieldReference f) w = one_name f.class w ++ joined f.constraints w
+type_names ASN1Type-F.EmbeddedPdv w = []
+type_names ASN1Type-F.External w = []
 
 -- the members first, then the names behind COMPONENTS OF (X.680 25.5)
-abbrev pub struct_names : StructOf Names → Names
-struct_names s = joined s.members ++ s.components_of ++ joined s.constraints
+abbrev pub struct_names : StructOf NamesOf → NamesOf
+struct_names s w = joined s.members w ++ each_name s.components_of w ++ joined s.constraints w
 
-abbrev pub member_names : MemberOf Names → Names
-member_names m = m.ty ++ joined m.constraints ++ present m.default_value
+abbrev pub member_names : MemberOf NamesOf → NamesOf
+member_names m w = m.ty (in_default m.default_value w) ++ joined m.constraints w ++ present m.default_value w
 
-abbrev pub choice_names : ChoiceOf Names → Names
-choice_names c = joined c.options ++ joined c.constraints
+abbrev pub choice_names : ChoiceOf NamesOf → NamesOf
+choice_names c w = joined c.options w ++ joined c.constraints w
 
-abbrev pub option_names : OptionOf Names → Names
-option_names o = o.ty ++ joined o.constraints
+abbrev pub option_names : OptionOf NamesOf → NamesOf
+option_names o w = o.ty w ++ joined o.constraints w
 
-abbrev pub list_names : ListOf Names → Names
-list_names l = l.element_type ++ joined l.constraints
+abbrev pub list_names : ListOf NamesOf → NamesOf
+list_names l w = l.element_type w ++ joined l.constraints w
 
 -- ---- values
 
-abbrev pub arc_names : List ObjectIdentifierArc → Names
-arc_names [] = []
-arc_names (a ∷ arcs) = name_in a.name ++ arc_names arcs
+abbrev pub arc_names : List ObjectIdentifierArc → NamesOf
+arc_names [] w = []
+arc_names (a ∷ arcs) w = name_in a.name w ++ arc_names arcs w
 
 -- The name of an alternative or a component is no reference; names in braces, as of bits, may be those of values. What linking
 -- put in counts too: the names of the types that a value stands under.
-abbrev pub value_names : ValueOf Names → Names
-value_names ASN1Value-F.All = []
-value_names ASN1Value-F.ASN1Value::Null = []
-value_names (ASN1Value-F.ASN1Value::Boolean b) = []
-value_names (ASN1Value-F.ASN1Value::Choice type name inner) = name_in type ++ inner
-value_names (ASN1Value-F.SequenceOrSet parts) = joined (map (λ p. p.1) parts)
-value_names (ASN1Value-F.ASN1Value::Integer i) = []
-value_names (ASN1Value-F.ASN1Value::Real r) = []
-value_names (ASN1Value-F.String text) = []
-value_names (ASN1Value-F.ASN1Value::BitString bits) = []
-value_names (ASN1Value-F.BitStringNamedBits names) = names
-value_names (ASN1Value-F.ASN1Value::OctetString octets) = []
-value_names (ASN1Value-F.EnumeratedValue type name) = type ∷ name ∷ []
-value_names (ASN1Value-F.ASN1Value::Time text) = []
-value_names (ASN1Value-F.ElsewhereDeclaredValue parent name) = path_names parent name
-value_names (ASN1Value-F.ASN1Value::ObjectIdentifier arcs) = arc_names arcs.0
-value_names (ASN1Value-F.LinkedNestedValue supertypes v) = supertypes ++ v
-value_names (ASN1Value-F.LinkedIntValue kind i) = []
-value_names (ASN1Value-F.LinkedStructLikeValue fields) = joined fields
-value_names (ASN1Value-F.LinkedArrayLikeValue vs) = joined vs
-value_names (ASN1Value-F.LinkedCharStringValue kind text) = []
-value_names (ASN1Value-F.LinkedElsewhereDefinedValue parent name can_be_const) = path_names parent name
+abbrev pub value_names : ValueOf NamesOf → NamesOf
+value_names ASN1Value-F.All w = []
+value_names ASN1Value-F.ASN1Value::Null w = []
+value_names (ASN1Value-F.ASN1Value::Boolean b) w = []
+value_names (ASN1Value-F.ASN1Value::Choice type name inner) w = name_in type w ++ inner w
+value_names (ASN1Value-F.SequenceOrSet parts) w = joined (map (λ p. p.1) parts) w
+value_names (ASN1Value-F.ASN1Value::Integer i) w = []
+value_names (ASN1Value-F.ASN1Value::Real r) w = []
+value_names (ASN1Value-F.String text) w = []
+value_names (ASN1Value-F.ASN1Value::BitString bits) w = []
+value_names (ASN1Value-F.BitStringNamedBits names) w = each_name names w
+value_names (ASN1Value-F.ASN1Value::OctetString octets) w = []
+value_names (ASN1Value-F.EnumeratedValue type name) w = one_name type w ++ one_name name w
+value_names (ASN1Value-F.ASN1Value::Time text) w = []
+value_names (ASN1Value-F.ElsewhereDeclaredValue parent name) w = path_names parent name w
+value_names (ASN1Value-F.ASN1Value::ObjectIdentifier arcs) w = arc_names arcs.0 w
+value_names (ASN1Value-F.LinkedNestedValue supertypes v) w = each_name supertypes w ++ v w
+value_names (ASN1Value-F.LinkedIntValue kind i) w = []
+value_names (ASN1Value-F.LinkedStructLikeValue fields) w = joined fields w
+value_names (ASN1Value-F.LinkedArrayLikeValue vs) w = joined vs w
+value_names (ASN1Value-F.LinkedCharStringValue kind text) w = []
+value_names (ASN1Value-F.LinkedElsewhereDefinedValue parent name can_be_const) w = path_names parent name w
 
 -- a linked field, with the default where it is left out
-abbrev pub linked_names : LinkedOf Names → Names
-linked_names f = f.ty ++ held f.value
+abbrev pub linked_names : LinkedOf NamesOf → NamesOf
+linked_names f w = f.ty w ++ held f.value w
 
 -- ---- objects
 
 -- an item of an object set: the name of an object or a set, or an object (X.681 12.3)
-abbrev pub item_of_set_names : ObjectSetValueOver Names → Names
-item_of_set_names (Reference name) = name ∷ []
-item_of_set_names (Inline fields) = fields
+abbrev pub item_of_set_names : ObjectSetValueOver NamesOf → NamesOf
+item_of_set_names (Reference name) w = one_name name w
+item_of_set_names (Inline fields) w = fields w
 
-abbrev pub object_set_names : ObjectSetOver Names → Names
-object_set_names s = joined (map item_of_set_names s.values)
+abbrev pub object_set_names : ObjectSetOver NamesOf → NamesOf
+object_set_names s w = joined (map item_of_set_names s.values) w
 
 -- each field by its name, which is no reference (X.681 11.5)
-abbrev pub field_names : FieldOf Names → Names
-field_names (InformationObjectField-F.TypeField f) = f.ty
-field_names (InformationObjectField-F.FixedValueField f) = f.value
-field_names (InformationObjectField-F.ObjectSetField f) = object_set_names f.value
+abbrev pub field_names : FieldOf NamesOf → NamesOf
+field_names (InformationObjectField-F.TypeField f) w = f.ty w
+field_names (InformationObjectField-F.FixedValueField f) w = f.value w
+field_names (InformationObjectField-F.ObjectSetField f) w = object_set_names f.value w
 
 -- An item of the class's own syntax: a word of the syntax is none, one that may be a type's name is (X.681 11.6).
-abbrev pub item_names : ItemOf Names → Names
-item_names (SyntaxApplication-F.ObjectSetDeclaration s) = object_set_names s
-item_names (SyntaxApplication-F.ValueReference v) = v
-item_names (SyntaxApplication-F.TypeReference ty) = ty
-item_names SyntaxApplication-F.Comma = []
-item_names (SyntaxApplication-F.Literal word) = []
-item_names (SyntaxApplication-F.LiteralOrTypeReference r) = reference_names r.parent r.identifier r.constraints
+abbrev pub item_names : ItemOf NamesOf → NamesOf
+item_names (SyntaxApplication-F.ObjectSetDeclaration s) w = object_set_names s w
+item_names (SyntaxApplication-F.ValueReference v) w = v w
+item_names (SyntaxApplication-F.TypeReference ty) w = ty w
+item_names SyntaxApplication-F.Comma w = []
+item_names (SyntaxApplication-F.Literal word) w = []
+item_names (SyntaxApplication-F.LiteralOrTypeReference r) w = reference_names r.parent r.identifier r.constraints w
 
-abbrev pub fields_names : FieldsOf Names → Names
-fields_names (InformationObjectFields-F.DefaultSyntax fields) = joined fields
-fields_names (InformationObjectFields-F.CustomSyntax items) = joined items
+abbrev pub fields_names : FieldsOf NamesOf → NamesOf
+fields_names (InformationObjectFields-F.DefaultSyntax fields) w = joined fields w
+fields_names (InformationObjectFields-F.CustomSyntax items) w = joined items w
 
 -- ---- constraints
 
--- the names behind `@` are those of components (X.682 10.7)
-abbrev pub constraint_names : ConstraintOf Names → Names
-constraint_names (Constraint-F.SubtypeConstraint s) = s.set
-constraint_names (Constraint-F.TableConstraint t) = object_set_names t.object_set
-constraint_names (Constraint-F.Parameter arguments) = joined arguments
-constraint_names (Constraint-F.ContentConstraint content) = content
+-- The names behind `@` are those of components (X.682 10.7). In a table and in a content every name is wanted.
+abbrev pub constraint_names : ConstraintOf NamesOf → NamesOf
+constraint_names (Constraint-F.SubtypeConstraint s) w = s.set w
+constraint_names (Constraint-F.TableConstraint t) w = object_set_names t.object_set Every
+constraint_names (Constraint-F.Parameter arguments) w = joined arguments w
+constraint_names (Constraint-F.ContentConstraint content) w = content w
 
-abbrev pub content_names : ContentOf Names → Names
-content_names (ContentConstraint-F.Containing ty) = ty
-content_names (ContentConstraint-F.EncodedBy rules) = rules
-content_names (ContentConstraint-F.ContainingEncodedBy ty rules) = ty ++ rules
+abbrev pub content_names : ContentOf NamesOf → NamesOf
+content_names (ContentConstraint-F.Containing ty) w = ty Every
+content_names (ContentConstraint-F.EncodedBy rules) w = rules Every
+content_names (ContentConstraint-F.ContainingEncodedBy ty rules) w = ty Every ++ rules Every
 
-abbrev pub argument_names : ParameterOf Names → Names
-argument_names (Parameter-F.ValueParameter v) = v
-argument_names (Parameter-F.TypeParameter ty) = ty
-argument_names (Parameter-F.InformationObjectParameter fields) = fields
-argument_names (Parameter-F.ObjectSetParameter s) = object_set_names s
+abbrev pub argument_names : ParameterOf NamesOf → NamesOf
+argument_names (Parameter-F.ValueParameter v) w = v w
+argument_names (Parameter-F.TypeParameter ty) w = ty w
+argument_names (Parameter-F.InformationObjectParameter fields) w = fields w
+argument_names (Parameter-F.ObjectSetParameter s) w = object_set_names s w
 
-abbrev pub set_names : SetOf Names → Names
-set_names (ElementOrSetOperation-F.Element e) = e
-set_names (ElementOrSetOperation-F.SetOperation o) = o
+abbrev pub set_names : SetOf NamesOf → NamesOf
+set_names (ElementOrSetOperation-F.Element e) w = e w
+set_names (ElementOrSetOperation-F.SetOperation o) w = o w
 
-abbrev pub operation_names : OperationOf Names → Names
-operation_names o = o.base ++ o.operant
+abbrev pub operation_names : OperationOf NamesOf → NamesOf
+operation_names o w = o.base w ++ o.operant w
 
 -- a component that WITH COMPONENTS lists
-abbrev pub component_names : ConstrainedComponentOver Names → Names
-component_names c = joined c.constraints
+abbrev pub component_names : ConstrainedComponentOver NamesOf → NamesOf
+component_names c w = joined c.constraints w
 
 -- a pattern, a constraint in words and settings hold no name
-abbrev pub element_names : ElementOf Names → Names
-element_names (SubtypeElement-F.SingleValue v extensible) = v
-element_names (SubtypeElement-F.ContainedSubtype ty extensible) = ty
-element_names (SubtypeElement-F.ValueRange low high low_open high_open extensible) = present low ++ present high
-element_names (SubtypeElement-F.PermittedAlphabet set) = set
-element_names (SubtypeElement-F.SizeConstraint set) = set
-element_names (SubtypeElement-F.TypeConstraint ty) = ty
-element_names (SubtypeElement-F.SingleTypeConstraint cs) = joined cs
-element_names (SubtypeElement-F.MultipleTypeConstraints inner) = joined (map component_names inner.constraints)
-element_names (SubtypeElement-F.PatternConstraint x) = []
-element_names (SubtypeElement-F.UserDefinedConstraint x) = []
-element_names (SubtypeElement-F.PropertySettings x) = []
+abbrev pub element_names : ElementOf NamesOf → NamesOf
+element_names (SubtypeElement-F.SingleValue v extensible) w = v w
+element_names (SubtypeElement-F.ContainedSubtype ty extensible) w = ty w
+element_names (SubtypeElement-F.ValueRange low high low_open high_open extensible) w = present low w ++ present high w
+element_names (SubtypeElement-F.PermittedAlphabet set) w = set w
+element_names (SubtypeElement-F.SizeConstraint set) w = set w
+element_names (SubtypeElement-F.TypeConstraint ty) w = ty w
+element_names (SubtypeElement-F.SingleTypeConstraint cs) w = joined cs w
+element_names (SubtypeElement-F.MultipleTypeConstraints inner) w = joined (map component_names inner.constraints) w
+element_names (SubtypeElement-F.PatternConstraint x) w = []
+element_names (SubtypeElement-F.UserDefinedConstraint x) w = []
+element_names (SubtypeElement-F.PropertySettings x) w = []
 
 -- ---- all trees
 
-abbrev pub naming : Algebra Names
+abbrev pub naming : Algebra NamesOf
 naming =
     record {
       at_constraint = constraint_names;
@@ -243,104 +264,112 @@ naming =
       at_linked = linked_names;
     }
 
-abbrev pub names_in : ASN1Type → Names
+abbrev pub names_in : ASN1Type → NamesOf
 names_in = of_type naming
 
-abbrev pub names_in_value : ASN1Value → Names
+abbrev pub names_in_value : ASN1Value → NamesOf
 names_in_value = of_value naming
 
-abbrev pub names_in_linked : LinkedField → Names
+abbrev pub names_in_linked : LinkedField → NamesOf
 names_in_linked = of_linked naming
 
-abbrev pub names_in_constraint : Constraint → Names
+abbrev pub names_in_constraint : Constraint → NamesOf
 names_in_constraint = of_constraint naming
 
-abbrev pub names_in_content : ContentConstraint → Names
+abbrev pub names_in_content : ContentConstraint → NamesOf
 names_in_content = of_content naming
 
-abbrev pub names_in_argument : Parameter → Names
+abbrev pub names_in_argument : Parameter → NamesOf
 names_in_argument = of_parameter naming
 
-abbrev pub names_in_set : ElementOrSetOperation → Names
+abbrev pub names_in_set : ElementOrSetOperation → NamesOf
 names_in_set = of_set naming
 
-abbrev pub names_in_operation : SetOperation → Names
+abbrev pub names_in_operation : SetOperation → NamesOf
 names_in_operation = of_operation naming
 
-abbrev pub names_in_element : SubtypeElement → Names
+abbrev pub names_in_element : SubtypeElement → NamesOf
 names_in_element = of_element naming
 
-abbrev pub names_in_component : ConstrainedComponentOver Constraint → Names
-names_in_component c = joined (map names_in_constraint c.constraints)
+abbrev pub names_in_component : ConstrainedComponentOver Constraint → NamesOf
+names_in_component c w = joined (map names_in_constraint c.constraints) w
 
-abbrev pub names_in_struct : SequenceOrSet → Names
+abbrev pub names_in_struct : SequenceOrSet → NamesOf
 names_in_struct = of_struct naming
 
-abbrev pub names_in_member : SequenceOrSetMember → Names
+abbrev pub names_in_member : SequenceOrSetMember → NamesOf
 names_in_member = of_member naming
 
-abbrev pub names_in_choice : Choice → Names
+abbrev pub names_in_choice : Choice → NamesOf
 names_in_choice = of_choice naming
 
-abbrev pub names_in_option : ChoiceOption → Names
+abbrev pub names_in_option : ChoiceOption → NamesOf
 names_in_option = of_option naming
 
-abbrev pub names_in_list : SequenceOrSetOf → Names
+abbrev pub names_in_list : SequenceOrSetOf → NamesOf
 names_in_list = of_list naming
 
-abbrev pub names_in_fields : InformationObjectFields → Names
+abbrev pub names_in_fields : InformationObjectFields → NamesOf
 names_in_fields = of_fields naming
 
-abbrev pub names_in_field : InformationObjectField → Names
+abbrev pub names_in_field : InformationObjectField → NamesOf
 names_in_field = of_field naming
 
-abbrev pub names_in_item : SyntaxApplication → Names
+abbrev pub names_in_item : SyntaxApplication → NamesOf
 names_in_item = of_item naming
 
 -- an item of an object set
-abbrev pub names_in_object : ObjectSetValueOver InformationObjectFields → Names
-names_in_object (Reference name) = name ∷ []
-names_in_object (Inline fields) = names_in_fields fields
+abbrev pub names_in_object : ObjectSetValueOver InformationObjectFields → NamesOf
+names_in_object (Reference name) w = one_name name w
+names_in_object (Inline fields) w = names_in_fields fields w
 
-abbrev pub names_in_objects : List (ObjectSetValueOver InformationObjectFields) → Names
-names_in_objects items = joined (map names_in_object items)
+abbrev pub names_in_objects : List (ObjectSetValueOver InformationObjectFields) → NamesOf
+names_in_objects items w = joined (map names_in_object items) w
 
 -- ---- definitions
 
 -- the class of a dummy, or the type that governs it (X.683 8.3)
-abbrev pub governor_names : ParameterGovernor → Names
-governor_names governor.None = []
-governor_names (governor.TypeOrClass g) = names_in g
-governor_names (governor.Class class) = class ∷ []
+abbrev pub governor_names : ParameterGovernor → NamesOf
+governor_names governor.None w = []
+governor_names (governor.TypeOrClass g) w = names_in g w
+governor_names (governor.Class class) w = one_name class w
 
-abbrev pub dummy_names : ParameterizationArgument → Names
-dummy_names d = governor_names d.param_governor
+abbrev pub dummy_names : ParameterizationArgument → NamesOf
+dummy_names d w = governor_names d.param_governor w
 
 -- the governors of the dummies; the dummies are no references where they are written
-abbrev pub parameter_names : Option Parameterization → Names
-parameter_names None = []
-parameter_names (Some p) = joined (map dummy_names p.parameters)
+abbrev pub parameter_names : Option Parameterization → NamesOf
+parameter_names None w = []
+parameter_names (Some p) w = joined (map dummy_names p.parameters) w
 
 -- the type or class of a field, and its default (X.681 9.5)
-abbrev pub class_field_names : InformationObjectClassField → Names
-class_field_names f = present (option_map names_in f.ty) ++ present (option_map names_in_value f.default)
+abbrev pub class_field_names : InformationObjectClassField → NamesOf
+class_field_names f w = present (option_map names_in f.ty) w ++ present (option_map names_in_value f.default) w
 
-abbrev pub class_names : InformationObjectClass → Names
-class_names c = joined (map class_field_names c.fields)
+abbrev pub class_names : InformationObjectClass → NamesOf
+class_names c w = joined (map class_field_names c.fields) w
 
 -- the class of an object or an object set
-abbrev pub link_names : Option ClassLink → Names
-link_names None = []
-link_names (Some (ByName name)) = name ∷ []
-link_names (Some (ByReference name c)) = name ∷ class_names c
+abbrev pub link_names : Option ClassLink → NamesOf
+link_names None w = []
+link_names (Some (ByName name)) w = one_name name w
+link_names (Some (ByReference name c)) w = one_name name w ++ class_names c w
 
-abbrev pub information_names : ASN1Information → Names
-information_names (ObjectClass c) = class_names c
-information_names (ObjectSet s) = names_in_objects s.values
-information_names (Object o) = o.class_name ∷ names_in_fields o.fields
+abbrev pub information_names : ASN1Information → NamesOf
+information_names (ObjectClass c) w = class_names c w
+information_names (ObjectSet s) w = names_in_objects s.values w
+information_names (Object o) w = one_name o.class_name w ++ names_in_fields o.fields w
 
--- The names of a definition: those of its dummies' governors, of its type or class, and of its value. Its own name is none.
+-- Those of a definition: of its dummies' governors, of its type or class, and of its value. Its own name is none.
+abbrev pub definition_names : ToplevelDefinition → NamesOf
+definition_names (TypeDef d) w = parameter_names d.parameterization w ++ names_in d.ty w
+definition_names (Value d) w = parameter_names d.parameterization w ++ names_in d.associated_type w ++ names_in_value d.value w
+definition_names (Information d) w = parameter_names d.parameterization w ++ link_names d.class w ++ information_names d.value w
+
+-- Every such name in a definition.
 unfoldable pub references_of : ToplevelDefinition → Names
-references_of (TypeDef d) = parameter_names d.parameterization ++ names_in d.ty
-references_of (Value d) = parameter_names d.parameterization ++ names_in d.associated_type ++ names_in_value d.value
-references_of (Information d) = parameter_names d.parameterization ++ link_names d.class ++ information_names d.value
+references_of d = definition_names d Every
+
+-- Those in the types of defaults, in tables and in contents alone.
+unfoldable pub followed_of : ToplevelDefinition → Names
+followed_of d = definition_names d Followed

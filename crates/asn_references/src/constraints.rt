@@ -6,6 +6,7 @@ ghost use Rattle.std.specs.Prelude.{◌≡◌, ◌++◌, OnOk, map};
 use crate::objects::{add_fields, add_objects};
 use crate::types::add_type;
 use crate::values::{add_optional_value, add_value};
+use crate::wanted::Wanted;
 use asn_memory::{List, Mem, Text};
 use asn_tree::{
     Constraint, ContentConstraint, ElementOrSetOperation, Parameter, SetOperation, SubtypeElement,
@@ -16,118 +17,139 @@ use asn_tree::{
 pub(crate) fn add_constraints<'t>(
     out: &mut List<&'t Text>,
     constraints: &'t [Constraint],
+    wanted: Wanted,
 ) -> Mem<()>
-    ensures { OnOk result (map (λ n. n.now) out.new ≡ map (λ n. n.now) out.old ++ joined (map names_in_constraint constraints.now)) }
+    ensures { OnOk result (map (λ n. n.now) out.new ≡ map (λ n. n.now) out.old ++ joined (map names_in_constraint constraints.now) wanted) }
 {
     for constraint in constraints {
-        add_constraint(out, constraint)?;
+        add_constraint(out, constraint, wanted)?;
     }
     Ok(())
 }
 
-/// Adds those of a constraint; of a table those in its object set.
+/// Adds those of a constraint; of a table every name in its object set.
 #[cycle(naming)]
-fn add_constraint<'t>(out: &mut List<&'t Text>, constraint: &'t Constraint) -> Mem<()>
-    ensures { OnOk result (map (λ n. n.now) out.new ≡ map (λ n. n.now) out.old ++ names_in_constraint constraint.now) }
+fn add_constraint<'t>(
+    out: &mut List<&'t Text>,
+    constraint: &'t Constraint,
+    wanted: Wanted,
+) -> Mem<()>
+    ensures { OnOk result (map (λ n. n.now) out.new ≡ map (λ n. n.now) out.old ++ names_in_constraint constraint.now wanted) }
 {
     match constraint {
-        Constraint::SubtypeConstraint(set) => add_set(out, &set.set),
-        Constraint::TableConstraint(table) => add_objects(out, table.object_set.values.as_slice()),
-        Constraint::Parameter(arguments) => add_arguments(out, arguments.as_slice()),
-        Constraint::ContentConstraint(content) => add_content(out, content),
+        Constraint::SubtypeConstraint(set) => add_set(out, &set.set, wanted),
+        Constraint::TableConstraint(table) => add_objects(
+            out,
+            table.object_set.values.as_slice(),
+            Wanted::Every,
+        ),
+        Constraint::Parameter(arguments) => add_arguments(out, arguments.as_slice(), wanted),
+        Constraint::ContentConstraint(content) => add_content(out, content, wanted),
     }
 }
 
-/// Adds those of a content (X.682 clause 11).
+/// Adds every name in a content (X.682 clause 11).
 #[cycle(naming)]
-fn add_content<'t>(out: &mut List<&'t Text>, content: &'t ContentConstraint) -> Mem<()>
-    ensures { OnOk result (map (λ n. n.now) out.new ≡ map (λ n. n.now) out.old ++ names_in_content content.now) }
+fn add_content<'t>(
+    out: &mut List<&'t Text>,
+    content: &'t ContentConstraint,
+    wanted: Wanted,
+) -> Mem<()>
+    ensures { OnOk result (map (λ n. n.now) out.new ≡ map (λ n. n.now) out.old ++ names_in_content content.now wanted) }
 {
     match content {
-        ContentConstraint::Containing(ty) => add_type(out, ty),
-        ContentConstraint::EncodedBy(rules) => add_value(out, rules),
+        ContentConstraint::Containing(ty) => add_type(out, ty, Wanted::Every),
+        ContentConstraint::EncodedBy(rules) => add_value(out, rules, Wanted::Every),
         ContentConstraint::ContainingEncodedBy {
             containing,
             encoded_by,
         } => {
-            add_type(out, containing)?;
-            add_value(out, encoded_by)
+            add_type(out, containing, Wanted::Every)?;
+            add_value(out, encoded_by, Wanted::Every)
         }
     }
 }
 
 /// Adds those of arguments, in their order (X.683 clause 9).
 #[cycle(naming)]
-fn add_arguments<'t>(out: &mut List<&'t Text>, arguments: &'t [Parameter]) -> Mem<()>
-    ensures { OnOk result (map (λ n. n.now) out.new ≡ map (λ n. n.now) out.old ++ joined (map names_in_argument arguments.now)) }
+fn add_arguments<'t>(
+    out: &mut List<&'t Text>,
+    arguments: &'t [Parameter],
+    wanted: Wanted,
+) -> Mem<()>
+    ensures { OnOk result (map (λ n. n.now) out.new ≡ map (λ n. n.now) out.old ++ joined (map names_in_argument arguments.now) wanted) }
 {
     for argument in arguments {
-        add_argument(out, argument)?;
+        add_argument(out, argument, wanted)?;
     }
     Ok(())
 }
 
 /// Adds those of an argument.
 #[cycle(naming)]
-fn add_argument<'t>(out: &mut List<&'t Text>, argument: &'t Parameter) -> Mem<()>
-    ensures { OnOk result (map (λ n. n.now) out.new ≡ map (λ n. n.now) out.old ++ names_in_argument argument.now) }
+fn add_argument<'t>(out: &mut List<&'t Text>, argument: &'t Parameter, wanted: Wanted) -> Mem<()>
+    ensures { OnOk result (map (λ n. n.now) out.new ≡ map (λ n. n.now) out.old ++ names_in_argument argument.now wanted) }
 {
     match argument {
-        Parameter::ValueParameter(value) => add_value(out, value),
-        Parameter::TypeParameter(ty) => add_type(out, ty),
-        Parameter::InformationObjectParameter(fields) => add_fields(out, fields),
-        Parameter::ObjectSetParameter(set) => add_objects(out, set.values.as_slice()),
+        Parameter::ValueParameter(value) => add_value(out, value, wanted),
+        Parameter::TypeParameter(ty) => add_type(out, ty, wanted),
+        Parameter::InformationObjectParameter(fields) => add_fields(out, fields, wanted),
+        Parameter::ObjectSetParameter(set) => add_objects(out, set.values.as_slice(), wanted),
     }
 }
 
 /// Adds those of an element, or of elements joined by operators.
 #[cycle(naming)]
-fn add_set<'t>(out: &mut List<&'t Text>, set: &'t ElementOrSetOperation) -> Mem<()>
-    ensures { OnOk result (map (λ n. n.now) out.new ≡ map (λ n. n.now) out.old ++ names_in_set set.now) }
+fn add_set<'t>(out: &mut List<&'t Text>, set: &'t ElementOrSetOperation, wanted: Wanted) -> Mem<()>
+    ensures { OnOk result (map (λ n. n.now) out.new ≡ map (λ n. n.now) out.old ++ names_in_set set.now wanted) }
 {
     match set {
-        ElementOrSetOperation::Element(element) => add_element(out, element),
-        ElementOrSetOperation::SetOperation(operation) => add_operation(out, operation),
+        ElementOrSetOperation::Element(element) => add_element(out, element, wanted),
+        ElementOrSetOperation::SetOperation(operation) => add_operation(out, operation, wanted),
     }
 }
 
 /// Adds those of both sides of an operator.
 #[cycle(naming)]
-fn add_operation<'t>(out: &mut List<&'t Text>, operation: &'t SetOperation) -> Mem<()>
-    ensures { OnOk result (map (λ n. n.now) out.new ≡ map (λ n. n.now) out.old ++ names_in_operation operation.now) }
+fn add_operation<'t>(
+    out: &mut List<&'t Text>,
+    operation: &'t SetOperation,
+    wanted: Wanted,
+) -> Mem<()>
+    ensures { OnOk result (map (λ n. n.now) out.new ≡ map (λ n. n.now) out.old ++ names_in_operation operation.now wanted) }
 {
-    add_element(out, &operation.base)?;
-    add_set(out, operation.operant.get())
+    add_element(out, &operation.base, wanted)?;
+    add_set(out, operation.operant.get(), wanted)
 }
 
 /// Adds those of an element. Those of the components that WITH COMPONENTS lists are added here, since their constraints are no
 /// deeper than the element.
 #[cycle(naming)]
-fn add_element<'t>(out: &mut List<&'t Text>, element: &'t SubtypeElement) -> Mem<()>
-    ensures { OnOk result (map (λ n. n.now) out.new ≡ map (λ n. n.now) out.old ++ names_in_element element.now) }
+fn add_element<'t>(out: &mut List<&'t Text>, element: &'t SubtypeElement, wanted: Wanted) -> Mem<()>
+    ensures { OnOk result (map (λ n. n.now) out.new ≡ map (λ n. n.now) out.old ++ names_in_element element.now wanted) }
 {
     match element {
         SubtypeElement::SingleValue {
             value,
             extensible: _,
-        } => add_value(out, value),
+        } => add_value(out, value, wanted),
         SubtypeElement::ContainedSubtype {
             subtype,
             extensible: _,
-        } => add_type(out, subtype),
+        } => add_type(out, subtype, wanted),
         SubtypeElement::ValueRange { min, max, .. } => {
-            add_optional_value(out, min)?;
-            add_optional_value(out, max)
+            add_optional_value(out, min, wanted)?;
+            add_optional_value(out, max, wanted)
         }
-        SubtypeElement::PermittedAlphabet(set) => add_set(out, set.get()),
-        SubtypeElement::SizeConstraint(set) => add_set(out, set.get()),
-        SubtypeElement::TypeConstraint(ty) => add_type(out, ty),
+        SubtypeElement::PermittedAlphabet(set) => add_set(out, set.get(), wanted),
+        SubtypeElement::SizeConstraint(set) => add_set(out, set.get(), wanted),
+        SubtypeElement::TypeConstraint(ty) => add_type(out, ty, wanted),
         SubtypeElement::SingleTypeConstraint(constraints) => {
-            add_constraints(out, constraints.as_slice())
+            add_constraints(out, constraints.as_slice(), wanted)
         }
         SubtypeElement::MultipleTypeConstraints(inner) => {
             for component in inner.constraints.as_slice() {
-                add_constraints(out, component.constraints.as_slice())?;
+                add_constraints(out, component.constraints.as_slice(), wanted)?;
             }
             Ok(())
         }

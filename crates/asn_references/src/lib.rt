@@ -1,7 +1,7 @@
 //! The names in a definition that stand where a reference may stand, of whatever kind.
 //!
 //! It stands on the trees, borrows them, copies no text, and looks no name up. The layer above asks it where a definition may
-//! lead.
+//! lead: all names of one, or those in the types of defaults, in tables and in contents alone.
 #![tactic(auto)]
 
 mod constraints;
@@ -10,5 +10,6 @@ mod names;
 mod objects;
 mod types;
 mod values;
+mod wanted;
 
-pub use definitions::references;
+pub use definitions::{followed, references};

@@ -1,35 +1,53 @@
 //! Names, alone and with an object's before them (X.681 15), and those of arcs (X.680 32.3).
 
-ghost use Rattle.asn_references.specs.References.{arc_names, name_in, path_names};
-ghost use Rattle.std.specs.Prelude.{◌≡◌, ◌++◌, ◌∷◌, [], OnOk, map};
+ghost use Rattle.asn_references.specs.References.{arc_names, each_name, name_in, one_name, path_names};
+ghost use Rattle.std.specs.Prelude.{◌≡◌, ◌++◌, OnOk, map};
 
+use crate::wanted::Wanted;
 use asn_memory::{List, Mem, Text};
 use asn_tree::ObjectIdentifierArc;
 
-/// Adds a name.
-pub(crate) fn add_name<'t>(out: &mut List<&'t Text>, name: &'t Text) -> Mem<()>
-    ensures { OnOk result (map (λ n. n.now) out.new ≡ map (λ n. n.now) out.old ++ name.now ∷ []) }
+/// Adds a name, where every one is wanted.
+pub(crate) fn add_name<'t>(out: &mut List<&'t Text>, name: &'t Text, wanted: Wanted) -> Mem<()>
+    ensures { OnOk result (map (λ n. n.now) out.new ≡ map (λ n. n.now) out.old ++ one_name name.now wanted) }
 {
-    out.add(name)
+    match wanted {
+        Wanted::Every => out.add(name),
+        Wanted::Followed => Ok(()),
+    }
 }
 
 /// Adds names, in their order.
-pub(crate) fn add_names<'t>(out: &mut List<&'t Text>, names: &'t [Text]) -> Mem<()>
+fn add_all<'t>(out: &mut List<&'t Text>, names: &'t [Text]) -> Mem<()>
     ensures { OnOk result (map (λ n. n.now) out.new ≡ map (λ n. n.now) out.old ++ names.now) }
 {
     for name in names {
-        add_name(out, name)?;
+        out.add(name)?;
     }
     Ok(())
 }
 
+/// Adds names, in their order, where every one is wanted.
+pub(crate) fn add_names<'t>(out: &mut List<&'t Text>, names: &'t [Text], wanted: Wanted) -> Mem<()>
+    ensures { OnOk result (map (λ n. n.now) out.new ≡ map (λ n. n.now) out.old ++ each_name names.now wanted) }
+{
+    match wanted {
+        Wanted::Every => add_all(out, names),
+        Wanted::Followed => Ok(()),
+    }
+}
+
 /// Adds a name, where there is one.
-pub(crate) fn add_optional_name<'t>(out: &mut List<&'t Text>, name: &'t Option<Text>) -> Mem<()>
-    ensures { OnOk result (map (λ n. n.now) out.new ≡ map (λ n. n.now) out.old ++ name_in name.now) }
+pub(crate) fn add_optional_name<'t>(
+    out: &mut List<&'t Text>,
+    name: &'t Option<Text>,
+    wanted: Wanted,
+) -> Mem<()>
+    ensures { OnOk result (map (λ n. n.now) out.new ≡ map (λ n. n.now) out.old ++ name_in name.now wanted) }
 {
     match name {
         None => Ok(()),
-        Some(name) => add_name(out, name),
+        Some(name) => add_name(out, name, wanted),
     }
 }
 
@@ -38,19 +56,24 @@ pub(crate) fn add_path<'t>(
     out: &mut List<&'t Text>,
     parent: &'t Option<Text>,
     name: &'t Text,
+    wanted: Wanted,
 ) -> Mem<()>
-    ensures { OnOk result (map (λ n. n.now) out.new ≡ map (λ n. n.now) out.old ++ path_names parent.now name.now) }
+    ensures { OnOk result (map (λ n. n.now) out.new ≡ map (λ n. n.now) out.old ++ path_names parent.now name.now wanted) }
 {
-    add_optional_name(out, parent)?;
-    add_name(out, name)
+    add_optional_name(out, parent, wanted)?;
+    add_name(out, name, wanted)
 }
 
 /// Adds the names of arcs, in their order.
-pub(crate) fn add_arcs<'t>(out: &mut List<&'t Text>, arcs: &'t [ObjectIdentifierArc]) -> Mem<()>
-    ensures { OnOk result (map (λ n. n.now) out.new ≡ map (λ n. n.now) out.old ++ arc_names arcs.now) }
+pub(crate) fn add_arcs<'t>(
+    out: &mut List<&'t Text>,
+    arcs: &'t [ObjectIdentifierArc],
+    wanted: Wanted,
+) -> Mem<()>
+    ensures { OnOk result (map (λ n. n.now) out.new ≡ map (λ n. n.now) out.old ++ arc_names arcs.now wanted) }
 {
     for arc in arcs {
-        add_optional_name(out, &arc.name)?;
+        add_optional_name(out, &arc.name, wanted)?;
     }
     Ok(())
 }

@@ -6,13 +6,18 @@ ghost use Rattle.std.specs.Prelude.{◌≡◌, ◌++◌, OnOk, map};
 
 use crate::names::{add_arcs, add_name, add_names, add_optional_name, add_path};
 use crate::types::add_type;
+use crate::wanted::Wanted;
 use asn_memory::{Box, List, Mem, Text};
 use asn_tree::{ASN1Value, LinkedField, StructLikeFieldValue};
 
 /// Adds the names in a value.
 #[cycle(naming)]
-pub(crate) fn add_value<'t>(out: &mut List<&'t Text>, value: &'t ASN1Value) -> Mem<()>
-    ensures { OnOk result (map (λ n. n.now) out.new ≡ map (λ n. n.now) out.old ++ names_in_value value.now) }
+pub(crate) fn add_value<'t>(
+    out: &mut List<&'t Text>,
+    value: &'t ASN1Value,
+    wanted: Wanted,
+) -> Mem<()>
+    ensures { OnOk result (map (λ n. n.now) out.new ≡ map (λ n. n.now) out.old ++ names_in_value value.now wanted) }
 {
     match value {
         ASN1Value::All => Ok(()),
@@ -23,41 +28,45 @@ pub(crate) fn add_value<'t>(out: &mut List<&'t Text>, value: &'t ASN1Value) -> M
             variant_name: _,
             inner_value,
         } => {
-            add_optional_name(out, type_name)?;
-            add_value(out, inner_value.get())
+            add_optional_name(out, type_name, wanted)?;
+            add_value(out, inner_value.get(), wanted)
         }
-        ASN1Value::SequenceOrSet(parts) => add_parts(out, parts.as_slice()),
+        ASN1Value::SequenceOrSet(parts) => add_parts(out, parts.as_slice(), wanted),
         ASN1Value::Integer(_) => Ok(()),
         ASN1Value::Real(_) => Ok(()),
         ASN1Value::String(_) => Ok(()),
         ASN1Value::BitString(_) => Ok(()),
-        ASN1Value::BitStringNamedBits(names) => add_names(out, names.as_slice()),
+        ASN1Value::BitStringNamedBits(names) => add_names(out, names.as_slice(), wanted),
         ASN1Value::OctetString(_) => Ok(()),
         ASN1Value::EnumeratedValue {
             enumerated,
             enumerable,
         } => {
-            add_name(out, enumerated)?;
-            add_name(out, enumerable)
+            add_name(out, enumerated, wanted)?;
+            add_name(out, enumerable, wanted)
         }
         ASN1Value::Time(_) => Ok(()),
         ASN1Value::ElsewhereDeclaredValue { parent, identifier } => {
-            add_path(out, parent, identifier)
+            add_path(out, parent, identifier, wanted)
         }
-        ASN1Value::ObjectIdentifier(identifier) => add_arcs(out, identifier.0.as_slice()),
+        ASN1Value::ObjectIdentifier(identifier) => add_arcs(out, identifier.0.as_slice(), wanted),
         ASN1Value::LinkedNestedValue { supertypes, value } => {
-            add_names(out, supertypes.as_slice())?;
-            add_value(out, value.get())
+            add_names(out, supertypes.as_slice(), wanted)?;
+            add_value(out, value.get(), wanted)
         }
         ASN1Value::LinkedIntValue { .. } => Ok(()),
-        ASN1Value::LinkedStructLikeValue(fields) => add_linked_fields(out, fields.as_slice()),
-        ASN1Value::LinkedArrayLikeValue(values) => add_values(out, values.as_slice()),
+        ASN1Value::LinkedStructLikeValue(fields) => add_linked_fields(
+            out,
+            fields.as_slice(),
+            wanted,
+        ),
+        ASN1Value::LinkedArrayLikeValue(values) => add_values(out, values.as_slice(), wanted),
         ASN1Value::LinkedCharStringValue(_, _) => Ok(()),
         ASN1Value::LinkedElsewhereDefinedValue {
             parent,
             identifier,
             can_be_const: _,
-        } => add_path(out, parent, identifier),
+        } => add_path(out, parent, identifier, wanted),
     }
 }
 
@@ -66,56 +75,65 @@ pub(crate) fn add_value<'t>(out: &mut List<&'t Text>, value: &'t ASN1Value) -> M
 pub(crate) fn add_optional_value<'t>(
     out: &mut List<&'t Text>,
     value: &'t Option<ASN1Value>,
+    wanted: Wanted,
 ) -> Mem<()>
-    ensures { OnOk result (map (λ n. n.now) out.new ≡ map (λ n. n.now) out.old ++ present (option_map names_in_value value.now)) }
+    ensures { OnOk result (map (λ n. n.now) out.new ≡ map (λ n. n.now) out.old ++ present (option_map names_in_value value.now) wanted) }
 {
     match value {
         None => Ok(()),
-        Some(value) => add_value(out, value),
+        Some(value) => add_value(out, value, wanted),
     }
 }
 
 /// Adds those of the values between braces, in their order.
 #[cycle(naming)]
-fn add_parts<'t>(out: &mut List<&'t Text>, parts: &'t [(Option<Text>, Box<ASN1Value>)]) -> Mem<()>
-    ensures { OnOk result (map (λ n. n.now) out.new ≡ map (λ n. n.now) out.old ++ joined (map (λ p. names_in_value p.1) parts.now)) }
+fn add_parts<'t>(
+    out: &mut List<&'t Text>,
+    parts: &'t [(Option<Text>, Box<ASN1Value>)],
+    wanted: Wanted,
+) -> Mem<()>
+    ensures { OnOk result (map (λ n. n.now) out.new ≡ map (λ n. n.now) out.old ++ joined (map (λ p. names_in_value p.1) parts.now) wanted) }
 {
     for part in parts {
-        add_value(out, part.1.get())?;
+        add_value(out, part.1.get(), wanted)?;
     }
     Ok(())
 }
 
 /// Adds those of values, in their order.
 #[cycle(naming)]
-fn add_values<'t>(out: &mut List<&'t Text>, values: &'t [Box<ASN1Value>]) -> Mem<()>
-    ensures { OnOk result (map (λ n. n.now) out.new ≡ map (λ n. n.now) out.old ++ joined (map names_in_value values.now)) }
+fn add_values<'t>(out: &mut List<&'t Text>, values: &'t [Box<ASN1Value>], wanted: Wanted) -> Mem<()>
+    ensures { OnOk result (map (λ n. n.now) out.new ≡ map (λ n. n.now) out.old ++ joined (map names_in_value values.now) wanted) }
 {
     for value in values {
-        add_value(out, value.get())?;
+        add_value(out, value.get(), wanted)?;
     }
     Ok(())
 }
 
 /// Adds those of linked fields, in their order.
 #[cycle(naming)]
-fn add_linked_fields<'t>(out: &mut List<&'t Text>, fields: &'t [LinkedField]) -> Mem<()>
-    ensures { OnOk result (map (λ n. n.now) out.new ≡ map (λ n. n.now) out.old ++ joined (map names_in_linked fields.now)) }
+fn add_linked_fields<'t>(
+    out: &mut List<&'t Text>,
+    fields: &'t [LinkedField],
+    wanted: Wanted,
+) -> Mem<()>
+    ensures { OnOk result (map (λ n. n.now) out.new ≡ map (λ n. n.now) out.old ++ joined (map names_in_linked fields.now) wanted) }
 {
     for field in fields {
-        add_linked(out, field)?;
+        add_linked(out, field, wanted)?;
     }
     Ok(())
 }
 
 /// Adds those of a linked field: of its type and of its value.
 #[cycle(naming)]
-fn add_linked<'t>(out: &mut List<&'t Text>, field: &'t LinkedField) -> Mem<()>
-    ensures { OnOk result (map (λ n. n.now) out.new ≡ map (λ n. n.now) out.old ++ names_in_linked field.now) }
+fn add_linked<'t>(out: &mut List<&'t Text>, field: &'t LinkedField, wanted: Wanted) -> Mem<()>
+    ensures { OnOk result (map (λ n. n.now) out.new ≡ map (λ n. n.now) out.old ++ names_in_linked field.now wanted) }
 {
-    add_type(out, &field.ty)?;
+    add_type(out, &field.ty, wanted)?;
     match &field.value {
-        StructLikeFieldValue::Explicit(value) => add_value(out, value.get()),
-        StructLikeFieldValue::Implicit(value) => add_value(out, value.get()),
+        StructLikeFieldValue::Explicit(value) => add_value(out, value.get(), wanted),
+        StructLikeFieldValue::Implicit(value) => add_value(out, value.get(), wanted),
     }
 }
