@@ -1,9 +1,8 @@
 //! The fault of a definition, by its places.
 
-ghost use Rattle.asn_circles.specs.Circles.{LeadsToNoCircle};
-ghost use Rattle.asn_index.specs.Definitions.{last_named};
+ghost use Rattle.asn_circles.specs.Circles.{FollowsNoCircle, LeadsToNoCircle};
 ghost use Rattle.asn_names.specs.Faults.{first_fault, HasFault, IsJudged};
-ghost use Rattle.std.specs.Prelude.{◌≡◌, ◌↔◌, true, IfOk, IsTrue, Some};
+ghost use Rattle.std.specs.Prelude.{◌≡◌, ◌↔◌, ◌||◌, ◌&&◌, IfOk, IsTrue};
 
 use asn_index::Names;
 use asn_memory::Mem;
@@ -50,6 +49,19 @@ fn judged_fault(
     Ok(first_fault(found, is_unchanged(definition)))
 }
 
+/// Whether linking judges a definition that leads to no circle, or stays as it is and follows none.
+fn is_judged(is_free: bool, unchanged: bool, follows_none: bool) -> bool
+    ensures { result ≡ (is_free || (unchanged && follows_none)) }
+{
+    if is_free {
+        true
+    } else if unchanged {
+        follows_none
+    } else {
+        false
+    }
+}
+
 /// The fault of the definition that stands for a name.
 ///
 /// Err: want of memory.
@@ -59,11 +71,13 @@ pub(crate) fn fault_of(
     name: &str,
     definition: &ToplevelDefinition,
     is_free: bool,
+    follows_none: bool,
 ) -> Mem<Option<Fault>>
-    requires { IsTrue is_free ↔ LeadsToNoCircle names.now.definitions.now name.now }
+    requires free { IsTrue is_free ↔ LeadsToNoCircle names.now.definitions.now name.now }
+    requires follows { IsTrue follows_none ↔ FollowsNoCircle names.now.definitions.now name.now }
     ensures { IfOk result (λ fault. HasFault names.now.definitions.now name.now definition.now fault) }
 {
-    if is_free || is_unchanged(definition) {
+    if is_judged(is_free, is_unchanged(definition), follows_none) {
         let fault = judged_fault(alloc, names, name, definition)?;
         Ok(fault)
     } else {

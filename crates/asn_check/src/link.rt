@@ -13,7 +13,7 @@ use crate::given::{copy_definitions, give_reading};
 use crate::laws::{due_are_warned, linked_keeps_meaning, warnings_are_due};
 use crate::linked::Linked;
 use crate::warnings::warnings_on_all;
-use asn_circles::free_of_circles;
+use asn_circles::{follow_no_circle, free_of_circles};
 use asn_copy_trees::{copy_module_reference, copy_toplevel_definition};
 use asn_index::Names;
 use asn_memory::{List, Mem};
@@ -52,7 +52,14 @@ fn judge(alloc: Global, reading: &Reading) -> Mem<List<LinkerError>>
     let names = Names::new(alloc, &definitions)?;
     let standing = names.standing(alloc)?;
     let free = free_of_circles(alloc, &names, standing.as_slice())?;
-    let warnings = warnings_on_all(alloc, &names, standing.as_slice(), free.as_slice())?;
+    let follow = follow_no_circle(alloc, &names, standing.as_slice(), free.as_slice())?;
+    let warnings = warnings_on_all(
+        alloc,
+        &names,
+        standing.as_slice(),
+        free.as_slice(),
+        follow.as_slice(),
+    )?;
     Ok(warnings)
 }
 
@@ -84,9 +91,10 @@ fn link_parts(alloc: Global, reading: &Reading) -> Mem<Linked>
 }
 
 /// The linked answer of a reading: each definition is given as read, with its numbers and its module's tagging environment. It judges
-/// each definition that linking leaves as it is and each that leads to no circle of names, and warns of a wrong argument at one of
-/// its places, or else of a missing name; for a time, of each other one that linking would change; and of names that several
-/// definitions have. Where all definitions have basic forms, these are all the faults that stand.
+/// each definition that leads to no circle of names, where of one that linking leaves as it is this is asked of the types of its
+/// defaults, of its tables and of its contents alone, and warns of a wrong argument at one of its places, or else of a missing name; for a time, of
+/// each other one; and of names that several definitions have. Where all definitions have basic forms, these are all the faults that
+/// stand.
 ///
 /// # Errors
 ///

@@ -1,7 +1,7 @@
 //! The warnings of a linked answer.
 
 ghost use Rattle.asn_check.specs.Warnings.{AreWarningsOf, AreWarningsOn, IsFaultOf, of_duplicate, of_fault, refused, said_by, warning, warning_for};
-ghost use Rattle.asn_circles.specs.Circles.{FreeAre, LeadsToNoCircle};
+ghost use Rattle.asn_circles.specs.Circles.{FollowersAre, FollowsNoCircle, FreeAre, LeadsToNoCircle};
 ghost use Rattle.asn_index.specs.Definitions.{last_named, name_of};
 ghost use Rattle.std.specs.Prelude.{◌≡◌, ◌↔◌, ◌++◌, IfOk, IsTrue, OnOk, map};
 
@@ -76,13 +76,20 @@ fn warn_of_fault(
 /// The fault of the definition that stands for the name.
 ///
 /// Err: want of memory.
-fn standing_fault(alloc: Global, names: &Names<'_>, name: &str, is_free: bool) -> Mem<Option<Fault>>
-    requires { IsTrue is_free ↔ LeadsToNoCircle names.now.definitions.now name.now }
+fn standing_fault(
+    alloc: Global,
+    names: &Names<'_>,
+    name: &str,
+    is_free: bool,
+    follows_none: bool,
+) -> Mem<Option<Fault>>
+    requires free { IsTrue is_free ↔ LeadsToNoCircle names.now.definitions.now name.now }
+    requires follows { IsTrue follows_none ↔ FollowsNoCircle names.now.definitions.now name.now }
     ensures { IfOk result (λ fault. IsFaultOf names.now.definitions.now name.now (last_named names.now.definitions.now name.now) fault) }
 {
     match names.last_named(name) {
         Some(definition) => {
-            let fault = fault_of(alloc, names, name, definition, is_free)?;
+            let fault = fault_of(alloc, names, name, definition, is_free, follows_none)?;
             Ok(fault)
         }
         None => Ok(None),
@@ -113,11 +120,13 @@ fn warnings_on(
     names: &Names<'_>,
     name: &Text,
     is_free: bool,
+    follows_none: bool,
 ) -> Mem<List<LinkerError>>
-    requires { IsTrue is_free ↔ LeadsToNoCircle names.now.definitions.now name.now }
+    requires free { IsTrue is_free ↔ LeadsToNoCircle names.now.definitions.now name.now }
+    requires follows { IsTrue follows_none ↔ FollowsNoCircle names.now.definitions.now name.now }
     ensures { IfOk result (λ ws. AreWarningsOn names.now.definitions.now name.now (map said_by ws)) }
 {
-    let fault = standing_fault(alloc, names, name.as_str(), is_free)?;
+    let fault = standing_fault(alloc, names, name.as_str(), is_free, follows_none)?;
     let mut warnings = List::new(alloc);
     warn_of_fault(alloc, &mut warnings, name, fault)?;
     let several = names.is_duplicate(name.as_str());
@@ -125,7 +134,8 @@ fn warnings_on(
     Ok(warnings)
 }
 
-/// All warnings on the names of these definitions, in their order; `free` tells of each whether it leads to no circle.
+/// All warnings on the names of these definitions, in their order; `free` tells of each whether it leads to no circle, and `follow`
+/// whether nothing in the types of its defaults, in its tables and in its contents does.
 ///
 /// Err: want of memory.
 pub(crate) fn warnings_on_all(
@@ -133,13 +143,15 @@ pub(crate) fn warnings_on_all(
     names: &Names<'_>,
     definitions: &[&ToplevelDefinition],
     free: &[bool],
+    follow: &[bool],
 ) -> Mem<List<LinkerError>>
-    requires { FreeAre names.now.definitions.now (map (λ d. name_of d.now) definitions.now) free.now }
+    requires free { FreeAre names.now.definitions.now (map (λ d. name_of d.now) definitions.now) free.now }
+    requires follow { FollowersAre names.now.definitions.now (map (λ d. name_of d.now) definitions.now) follow.now }
     ensures { IfOk result (λ ws. AreWarningsOf names.now.definitions.now (map (λ d. name_of d.now) definitions.now) (map said_by ws)) }
 {
     let mut warnings = List::new(alloc);
     for (i, definition) in definitions.iter().enumerate() {
-        let here = warnings_on(alloc, names, definition.name(), free[i])?;
+        let here = warnings_on(alloc, names, definition.name(), free[i], follow[i])?;
         warnings.append(here)?;
     }
     Ok(warnings)

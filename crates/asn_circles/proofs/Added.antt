@@ -13,7 +13,7 @@ use Rattle.asn_circles.proofs.Ascending.{one_place}
 pub none_contained : {X : Type 0} (x : X) → Contains [] x → ⊥
 none_contained x c = let h : c.0 < 0 = c.1 in absurd (omega arith)
 
-one_contained : {X : Type 0} (y x : X) → Contains (y ∷ []) x → y ≡ x
+pub one_contained : {X : Type 0} (y x : X) → Contains (y ∷ []) x → y ≡ x
 one_contained y x c = go c.0 c.1 c.2
   where
     go : (k : ℕ) → k < 1 → get_or (y ∷ []) k x ≡ x → y ≡ x

@@ -2,3 +2,4 @@ pub mod Ascending
 pub mod Added
 pub mod Standing
 pub mod Needed
+pub mod Followed

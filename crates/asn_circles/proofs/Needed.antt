@@ -1,16 +1,18 @@
 -- What names lead to is what the nodes at their places need.
-use Rattle.std.proofs.Common.{◌≡◌, ℕ, suc, ◌+◌, ◌<◌, ◌≤◌, ◌⊎◌, ◌↔◌, inl, inr, Bool, true, false, Option, Some, None}
+use Rattle.std.proofs.Common.{◌≡◌, ℕ, zero, suc, ◌+◌, ◌<◌, ◌≤◌, ◌⊎◌, ◌↔◌, inl, inr, Bool, true, false, Option, Some, None}
 use Rattle.std.proofs.Common.{List, [], ◌∷◌, length, map, get_or, refl, sym, ap, ◌∙◌, subst, arith}
-use Rattle.std.specs.Prelude.{Contains, is_some}
+use Rattle.std.specs.Prelude.{Contains, is_some, not}
 use Rattle.std.specs.List.{AllZip}
 use Rattle.std.proofs.lemmas.Bool.{cases_lt}
 use Rattle.std.proofs.lemmas.List.{get_or-map, get_or_past, length-map}
 use Rattle.asn_tree.specs.declared.definitions.ToplevelDefinition.{ToplevelDefinition}
-use Rattle.asn_graph.specs.Graphs.{Edges as Graph, HasEdge, Needs, at_once as needs_at_once, further as needs_further, NeedsNoCycle}
+use Rattle.asn_graph.specs.Graphs.{Edges as Graph, HasEdge, Needs, at_once as needs_at_once, further as needs_further}
+use Rattle.asn_graph.specs.Reach.{AreLeading, IsMarked, LeadsToMarked}
 use Rattle.asn_index.specs.Definitions.{Definitions, IsStanding, last_named, name_of}
 use Rattle.asn_references.specs.References.{references_of}
-use Rattle.asn_circles.specs.Circles.{FreeAre, Leads, at_once, further, LeadsToNoCircle, Refers}
-use Rattle.asn_circles.specs.inner.Drawn.{AreFree, Ascend, IsDrawn, IsMentioned}
+use Rattle.asn_unchanged.specs.Unchanged.{is_unchanged}
+use Rattle.asn_circles.specs.Circles.{FreeAre, IsCircular, Leads, at_once, further, LeadsToNoCircle, Refers}
+use Rattle.asn_circles.specs.inner.Drawn.{AreCircular, AreFree, Ascend, IsDrawn, IsMentioned}
 use Rattle.asn_circles.proofs.Added.{none_contained}
 use Rattle.asn_circles.proofs.Ascending.{one_place}
 use Rattle.asn_circles.proofs.Standing.{has_name, stands_for}
@@ -132,40 +134,85 @@ module _ (defs ds : Definitions) (g : Graph) (standing : IsStanding defs ds) (dr
       let n = leads_needs x h l in
       subst (λ y. Needs g x y) (one n.0 x n.1 h n.2) n.3
 
-  free_iff : (x : ℕ) → x < length ds → NeedsNoCycle g x ↔ LeadsToNoCircle defs (name_at x)
-  free_iff x h = (go, come)
-    where
-      go : NeedsNoCycle g x → LeadsToNoCircle defs (name_at x)
-      go f = record { itself = λ l. f.itself (circle_needs x h l); others = λ name l c. other name (leads_needs x h l) c }
-        where
-          other : (name : List ℕ) → Reaches (Needs g) x name → Leads defs name name → ⊥
-          other name n c = f.others n.0 n.3 (circle_needs n.0 n.1 (subst (λ m. Leads defs m m) (sym n.2) c))
+  module _ (marked : List Bool) (circular : AreCircular g ds marked) where
+    marked_circular : (x : ℕ) → x < length ds → IsMarked marked x → IsCircular defs (name_at x)
+    marked_circular x h m =
+        let d : ToplevelDefinition = some_at x h in
+        let both = (circular.each x d h).0 m in
+        record { definition = get_or ds x d; stands = stands x d h; changed = both.1; back = needs_leads both.0 }
 
-      come : LeadsToNoCircle defs (name_at x) → NeedsNoCycle g x
-      come f = record { itself = λ n. f.itself (needs_leads n); others = λ y n m. f.others (name_at y) (needs_leads n) (needs_leads m) }
+    circular_marked : (x : ℕ) → x < length ds → IsCircular defs (name_at x) → IsMarked marked x
+    circular_marked x h c =
+        let d : ToplevelDefinition = some_at x h in
+        let same : c.definition ≡ get_or ds x d = same_some c.definition (get_or ds x d) (sym c.stands ∙ stands x d h) in
+        (circular.each x d h).1 (circle_needs x h c.back, ap is_unchanged (sym same) ∙ c.changed)
 
-  pub free_are : (free : List Bool) → AreFree g free → FreeAre defs (map name_of ds) free
-  free_are free told = zipped (λ name b. (b ≡ true) ↔ LeadsToNoCircle defs name) (map name_of ds) free [] false free_long at
-    where
-      free_long : length free ≡ length (map name_of ds)
-      free_long =
-          let a : length free + 1 ≡ length g.starts = told.long in
-          let b : length g.starts ≡ length (map references_of ds) + 1 = drawn.long in
-          let c : length (map references_of ds) ≡ length ds = length-map ds references_of in
-          let d : length (map name_of ds) ≡ length ds = long in
-          omega arith
+    needed_within : (x y : ℕ) → Needs g x y → y < length ds
+    needed_within x y (needs_at_once e) = edge_target x y e
+    needed_within x y (needs_further {y = z} n e) = edge_target z y e
 
-      at : (i : ℕ) → i < length free → (get_or free i false ≡ true) ↔ LeadsToNoCircle defs (name_at i)
-      at i h =
-          let k : i < length ds = omega (arith, free_long, long) in
-          iff_through (told.each i h) (free_iff i k)
+    free_iff : (x : ℕ) → x < length ds → (LeadsToMarked g marked x → ⊥) ↔ LeadsToNoCircle defs (name_at x)
+    free_iff x h = (go, come)
+      where
+        go : (LeadsToMarked g marked x → ⊥) → LeadsToNoCircle defs (name_at x)
+        go f = record { itself = λ c. f (inl (circular_marked x h c)); others = λ name l c. other name (leads_needs x h l) c }
+          where
+            other : (name : List ℕ) → Reaches (Needs g) x name → IsCircular defs name → ⊥
+            other name n c = f (inr (n.0, n.3, circular_marked n.0 n.1 (subst (IsCircular defs) (sym n.2) c)))
 
-map_through : {X Y Z : Type 0} (f : Y → Z) (h : X → Y) (xs : List X) → map f (map h xs) ≡ map (λ x. f (h x)) xs
+        come : LeadsToNoCircle defs (name_at x) → LeadsToMarked g marked x → ⊥
+        come f (inl m) = f.itself (marked_circular x h m)
+        come f (inr (y, n, m)) = f.others (name_at y) (needs_leads n) (marked_circular y (needed_within x y n) m)
+
+    pub free_are : (free : List Bool) → AreFree g marked free → FreeAre defs (map name_of ds) free
+    free_are free told = zipped (λ name b. (b ≡ true) ↔ LeadsToNoCircle defs name) (map name_of ds) free [] false free_long at
+      where
+        free_long : length free ≡ length (map name_of ds)
+        free_long =
+            let a : length free + 1 ≡ length g.starts = told.long in
+            let b : length g.starts ≡ length (map references_of ds) + 1 = drawn.long in
+            let c : length (map references_of ds) ≡ length ds = length-map ds references_of in
+            let d : length (map name_of ds) ≡ length ds = long in
+            omega arith
+
+        at : (i : ℕ) → i < length free → (get_or free i false ≡ true) ↔ LeadsToNoCircle defs (name_at i)
+        at i h =
+            let k : i < length ds = omega (arith, free_long, long) in
+            iff_through (told.each i h) (free_iff i k)
+
+-- the nodes that lead to no marked one, where it is told of each whether it leads to one
+free_left : (g : Graph) (marked leading free : List Bool) → AreLeading g marked leading → free ≡ map not leading → AreFree g marked free
+free_left g marked leading free told is = record { long = long; each = each }
+  where
+    same : length free ≡ length leading
+    same = ap length is ∙ length-map leading not
+
+    long : length free + 1 ≡ length g.starts
+    long = let a : length leading + 1 ≡ length g.starts = told.long in omega (arith, same, a)
+
+    turned : (b : Bool) {P : Type 0} → ((b ≡ true) ↔ P) → ((not b ≡ true) ↔ (P → ⊥))
+    turned true h = ((λ e. absurd cc), (λ f. absurd (f (h.0 refl))))
+    turned false h = ((λ e p. (let t = h.1 p in absurd cc)), (λ f. refl))
+
+    each : (x : ℕ) → x < length free → (get_or free x false ≡ true) ↔ (LeadsToMarked g marked x → ⊥)
+    each x h =
+        let k : x < length leading = omega (arith, same, h) in
+        let l : length leading + 1 ≡ length g.starts = told.long in
+        let at : get_or free x false ≡ not (get_or leading x true) = ap (λ bs. get_or bs x false) is ∙ get_or-map not leading x true false k in
+        let there : get_or leading x true ≡ get_or leading x false = get_or_any leading x k in
+        subst (λ b. (b ≡ true) ↔ (LeadsToMarked g marked x → ⊥)) (sym (at ∙ ap not there)) (turned (get_or leading x false) (told.each x (omega (arith, k, l))))
+      where
+        get_or_any : (bs : List Bool) (x : ℕ) → x < length bs → get_or bs x true ≡ get_or bs x false
+        get_or_any [] x h = absurd (omega (arith, h))
+        get_or_any (b ∷ bs) zero h = refl
+        get_or_any (b ∷ bs) (suc x) h = get_or_any bs x (omega (arith, h))
+
+pub map_through : {X Y Z : Type 0} (f : Y → Z) (h : X → Y) (xs : List X) → map f (map h xs) ≡ map (λ x. f (h x)) xs
 map_through f h [] = refl
 map_through f h (x ∷ xs) = ap (λ ys. f (h x) ∷ ys) (map_through f h xs)
 
 module _ {X : Type 0} (f : X → ToplevelDefinition) (defs : Definitions) (xs : List X) (standing : IsStanding defs (map f xs)) where
-  names_through : map name_of (map f xs) ≡ map (λ x. name_of (f x)) xs
+  pub names_through : map name_of (map f xs) ≡ map (λ x. name_of (f x)) xs
   names_through = map_through name_of f xs
 
   -- the names of definitions that stand ascend
@@ -173,9 +220,19 @@ module _ {X : Type 0} (f : X → ToplevelDefinition) (defs : Definitions) (xs : 
   names_ascend = subst Ascend names_through standing.ascending
 
   -- what the components of the graph of names tell
-  pub circles_told : (drawn made : Graph) (free : List Bool) → IsDrawn (map (λ x. name_of (f x)) xs) (map (λ x. references_of (f x)) xs) drawn →
-      made ≡ drawn → AreFree made free → FreeAre defs (map (λ x. name_of (f x)) xs) free
-  circles_told drawn made free is same told =
+  pub circles_told : (drawn made : Graph) (marked leading free : List Bool) → IsDrawn (map (λ x. name_of (f x)) xs) (map (λ x. references_of (f x)) xs) drawn →
+      made ≡ drawn → AreCircular made (map f xs) marked → AreLeading made marked leading → free ≡ map not leading → FreeAre defs (map (λ x. name_of (f x)) xs) free
+  circles_told drawn made marked leading free is same circular told others =
       let names_so = subst (λ ns. IsDrawn ns (map (λ x. references_of (f x)) xs) drawn) (sym names_through) is in
       let graph = subst (λ rs. IsDrawn (map name_of (map f xs)) rs drawn) (sym (map_through references_of f xs)) names_so in
-      subst (λ ns. FreeAre defs ns free) names_through (free_are defs (map f xs) drawn standing graph free (subst (λ g. AreFree g free) same told))
+      let left = free_left made marked leading free told others in
+      subst (λ ns. FreeAre defs ns free) names_through
+      (free_are defs (map f xs) made standing (subst (IsDrawn (map name_of (map f xs)) (map references_of (map f xs))) (sym same) graph) marked circular free left)
+
+  -- as many definitions as nodes
+  pub as_many : (drawn made : Graph) → IsDrawn (map (λ x. name_of (f x)) xs) (map (λ x. references_of (f x)) xs) drawn → made ≡ drawn → length xs + 1 ≡ length made.starts
+  as_many drawn made is same =
+      let l : length (map (λ x. references_of (f x)) xs) ≡ length xs = length-map xs (λ x. references_of (f x)) in
+      let d : length drawn.starts ≡ length (map (λ x. references_of (f x)) xs) + 1 = is.long in
+      let m : length made.starts ≡ length drawn.starts = ap (λ g. length g.starts) same in
+      omega (arith, l, d, m)

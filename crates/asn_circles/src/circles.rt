@@ -1,32 +1,58 @@
 //! Which definitions lead to no circle.
 
 ghost use Rattle.asn_circles.specs.Circles.{FreeAre};
-ghost use Rattle.asn_circles.specs.inner.Drawn.{AreFree};
+ghost use Rattle.asn_circles.specs.inner.Drawn.{AreCircular, AreFree};
+ghost use Rattle.asn_graph.specs.Reach.{AreLeading};
 ghost use Rattle.asn_index.specs.Definitions.{IsStanding};
 ghost use Rattle.asn_tree.specs.Calls.{name_of};
-ghost use Rattle.std.specs.Prelude.{IfOk, map};
+ghost use Rattle.std.specs.Prelude.{◌≡◌, ◌+◌, ◌&&◌, not, IfOk, length, map};
 
 use crate::drawing::graph_of;
-use asn_graph::Components;
+use asn_graph::{Components, leading_nodes};
 use asn_index::Names;
 use asn_memory::{List, Mem};
 use asn_tree::ToplevelDefinition;
+use asn_unchanged::is_unchanged;
 use std::alloc::Global;
 
-/// For each node, whether it needs no cycle.
-fn free_nodes(alloc: Global, components: &Components) -> Mem<List<bool>>
-    ensures { IfOk result (λ free. AreFree components.now.edges free) }
+/// Whether a definition is circular, by whether its node needs itself and linking leaves it as it is.
+fn is_circular(needs_itself: bool, unchanged: bool) -> bool
+    ensures { result ≡ (needs_itself && not unchanged) }
+{
+    if needs_itself { !unchanged } else { false }
+}
+
+/// For each node, whether it needs itself and its definition is one that linking changes.
+fn circular_nodes(
+    alloc: Global,
+    components: &Components,
+    definitions: &[&ToplevelDefinition],
+) -> Mem<Vec<bool>>
+    requires { length definitions.now + 1 ≡ length components.now.edges.starts }
+    ensures { IfOk result (λ marked. AreCircular components.now.edges (map (λ d. d.now) definitions.now) marked.items) }
+{
+    let mut marked = Vec::new(alloc);
+    for (node, definition) in definitions.iter().enumerate() {
+        marked.push(is_circular(components.needs_itself(node), is_unchanged(definition)))?;
+    }
+    Ok(marked)
+}
+
+/// For each node, whether it does not lead to a marked one.
+fn free_nodes(alloc: Global, leading: &[bool]) -> Mem<List<bool>>
+    ensures { IfOk result (λ free. free ≡ map not leading.now) }
 {
     let mut free = List::new(alloc);
-    for node in 0..components.node_count() {
-        free.add(components.needs_no_cycle(node))?;
+    for leads in leading {
+        free.add(!*leads)?;
     }
     Ok(free)
 }
 
-/// For each of the definitions that stand, in their order, whether it leads to no circle: neither its own name nor any that it leads
-/// to leads to itself. `standing` is what `Names::standing` gives of `names`. The work is linear in the names that definitions
-/// mention, but for a search by halves for each.
+/// For each of the definitions that stand, in their order, whether it leads to no circle: neither it nor any that it leads to is
+/// changed by linking and leads to itself. `standing` is what `Names::standing` gives of `names`. The work is linear in the names that
+/// definitions mention, but for a search by halves for each, and for names that lead to each other, whose edges may be gone over more
+/// than twice.
 ///
 /// # Errors
 ///
@@ -41,6 +67,8 @@ pub fn free_of_circles<'t>(
 {
     let graph = graph_of(alloc, standing)?;
     let components = Components::of(alloc, graph)?;
-    let free = free_nodes(alloc, &components)?;
+    let circular = circular_nodes(alloc, &components, standing)?;
+    let leading = leading_nodes(alloc, &components, circular.as_slice())?;
+    let free = free_nodes(alloc, leading.as_slice())?;
     Ok(free)
 }

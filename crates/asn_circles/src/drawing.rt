@@ -70,7 +70,10 @@ fn draw(alloc: Global, names: &[&Text], definitions: &[&ToplevelDefinition]) -> 
 }
 
 /// The definitions' names, in their order.
-fn names_of<'t>(alloc: Global, definitions: &[&'t ToplevelDefinition]) -> Mem<List<&'t Text>>
+pub(crate) fn names_of<'t>(
+    alloc: Global,
+    definitions: &[&'t ToplevelDefinition],
+) -> Mem<List<&'t Text>>
     ensures { IfOk result (λ names. map (λ n. n.now) names ≡ map (λ d. name_of d.now) definitions.now) }
 {
     let mut names = List::new(alloc);

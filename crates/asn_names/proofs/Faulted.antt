@@ -42,6 +42,7 @@ use Rattle.asn_names.specs.Needed.{stands_as, type_occurrence}
 use Rattle.asn_unchanged.specs.References.{names_in}
 use Rattle.asn_unchanged.specs.Unchanged.{is_unchanged}
 use Rattle.asn_names.proofs.Faultless.{one_fault}
+use Rattle.asn_names.proofs.Following.{basic_follows_none}
 use Rattle.asn_names.proofs.Decided.{of_last}
 use Rattle.asn_names.proofs.Places.{IsBasicForm, IsBasicSite, IsNamed, instance_none, name_occurs, place_basic, place_names, same_either, type_lacks_nothing}
 use Rattle.asn_names.proofs.Settled.{end_there}
@@ -319,7 +320,7 @@ module _ (stay : HeadsStay) (defs : Definitions) (basic : AreBasic defs) (n : �
 fault_found : HeadsStay → (defs : Definitions) → AreBasic defs → (name : List ℕ) (d : ToplevelTypeDefinition) → last_named defs name ≡ Some (TypeDef d) → IsBasicDefinition (TypeDef d) → is_unchanged (TypeDef d) ≡ true →
     HasFault defs name (TypeDef d) (if list_any (is_missing defs) (names_in d.ty) then Some warned.MissingDependency else None)
 fault_found stay defs basic name d is b unchanged =
-    is_judged false (list_any (is_missing defs) (names_in d.ty)) (inl unchanged) (0, λ m. argument_told stay defs basic (0 + m) name d is b) (0, λ m. missing_told stay defs basic (0 + m) name d is b)
+    is_judged false (list_any (is_missing defs) (names_in d.ty)) (inl (unchanged, basic_follows_none defs name d is b)) (0, λ m. argument_told stay defs basic (0 + m) name d is b) (0, λ m. missing_told stay defs basic (0 + m) name d is b)
     (sym (ap (first_fault false (list_any (is_missing defs) (names_in d.ty))) unchanged))
 
 pub faults_stand : HeadsStay → FaultsStand

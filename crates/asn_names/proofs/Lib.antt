@@ -8,3 +8,4 @@ pub mod Needed
 pub mod Decided
 pub mod Faulted
 pub mod Faultless
+pub mod Following

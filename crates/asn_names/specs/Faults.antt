@@ -9,7 +9,7 @@ use Rattle.asn_needs.specs.Arguments.{argument_wrong}
 use Rattle.asn_needs.specs.Faults.{IsSomewhere}
 use Rattle.asn_needs.specs.Missing.{name_missing}
 use Rattle.asn_needs.specs.Sites.{Eventually, Seen, seen, Site, ToDefinition}
-use Rattle.asn_circles.specs.Circles.{LeadsToNoCircle}
+use Rattle.asn_circles.specs.Circles.{FollowsNoCircle, LeadsToNoCircle}
 use Rattle.asn_index.specs.Definitions.{Definitions, name_of, is_duplicate}
 use Rattle.asn_names.specs.Occurrences.{names_of, Reaches}
 use Rattle.asn_unchanged.specs.Unchanged.{is_unchanged}
@@ -35,9 +35,10 @@ pub record HasTypes (defs : Definitions) (d : ToplevelDefinition) : Type 0 where
 abbrev pub IsTold : Definitions → List ℕ → (Seen → Site → Bool) → Bool → Type 0
 IsTold defs name f told = Eventually (λ n. IsSomewhere (seen defs n) (ToDefinition name) f ↔ (told ≡ true))
 
--- Linking judges a definition that it leaves as it is, and one that leads to no circle of names.
+-- Linking judges a definition that leads to no circle of names; of one that it leaves as it is it asks this of the names in the
+-- types of defaults, in tables and in contents alone.
 abbrev pub IsJudged : Definitions → List ℕ → ToplevelDefinition → Type 0
-IsJudged defs name d = (is_unchanged d ≡ true) ⊎ LeadsToNoCircle defs name
+IsJudged defs name d = ((is_unchanged d ≡ true) × FollowsNoCircle defs name) ⊎ LeadsToNoCircle defs name
 
 -- a wrong argument before a missing name; where neither stands, a definition that linking would change is not linked yet
 abbrev pub first_fault : Bool → Bool → Bool → Option Fault

@@ -3,7 +3,11 @@ use Rattle.std.specs.Prelude.{◌≡◌, ◌↔◌, ◌⊎◌, ◌<◌, ◌+◌,
 use Rattle.std.specs.Cmp.Lexicographic.{slice_cmp}
 use Rattle.std.specs.List.Sorted.{IsStrictlySortedBy}
 use Rattle.std.specs.Ordering.{nat_cmp}
-use Rattle.asn_graph.specs.Graphs.{Edges, HasEdge, NeedsNoCycle}
+use Rattle.asn_graph.specs.Graphs.{Edges, HasEdge, NeedsItself}
+use Rattle.asn_graph.specs.Reach.{LeadsToMarked}
+use Rattle.asn_tree.specs.declared.definitions.ToplevelDefinition.{ToplevelDefinition}
+use Rattle.asn_index.specs.Definitions.{Definitions}
+use Rattle.asn_unchanged.specs.Unchanged.{is_unchanged}
 
 -- each name is above those before it, in byte order
 abbrev pub Ascend : List (List ℕ) → Type 0
@@ -34,7 +38,13 @@ pub record IsDrawn (names : List (List ℕ)) (mentions : List (List (List ℕ)))
   pub long : length g.starts ≡ length mentions + 1
   pub edges : (x y : ℕ) → HasEdge g x y ↔ IsMentioned names (slice_index_or mentions x []) y
 
--- for each node, whether it needs no cycle
-pub record AreFree (g : Edges) (free : List Bool) : Type 0 where
+-- for each node, whether it needs itself and its definition is changed
+pub record AreCircular (g : Edges) (definitions : Definitions) (marked : List Bool) : Type 0 where
+  pub long : length marked ≡ length definitions
+  pub each : (x : ℕ) (d : ToplevelDefinition) → x < length definitions →
+      (IsTrue (slice_index_or marked x false) ↔ (NeedsItself g x × (is_unchanged (slice_index_or definitions x d) ≡ false)))
+
+-- for each node, whether it leads to no marked one
+pub record AreFree (g : Edges) (marked free : List Bool) : Type 0 where
   pub long : length free + 1 ≡ length g.starts
-  pub each : (x : ℕ) → x < length free → (IsTrue (slice_index_or free x false) ↔ NeedsNoCycle g x)
+  pub each : (x : ℕ) → x < length free → (IsTrue (slice_index_or free x false) ↔ (LeadsToMarked g marked x → ⊥))

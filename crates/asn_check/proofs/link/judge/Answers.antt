@@ -6,5 +6,5 @@ use Rattle.asn_check.proofs.link.judge.Goals as goal
 
 pub returns : goal.returns
 returns c =
-    judged c.warnings_are_due.ensures (definitions_of c.args.reading.now) c.in_ok-names.names.definitions.now c.in_ok-standing.standing c.as_slice-2.result.now (map said_by c.in_ok-warnings.warnings)
-    (c.in_ok-names.ensures ∙ c.in_ok-definitions.ensures) c.as_slice-2.ensures c.in_ok-standing.ensures c.in_ok-warnings.ensures
+    judged c.warnings_are_due.ensures (definitions_of c.args.reading.now) c.in_ok-names.names.definitions.now c.in_ok-standing.standing c.as_slice-4.result.now (map said_by c.in_ok-warnings.warnings)
+    (c.in_ok-names.ensures ∙ c.in_ok-definitions.ensures) c.as_slice-4.ensures c.in_ok-standing.ensures c.in_ok-warnings.ensures

@@ -1,9 +1,6 @@
-use Rattle.std.proofs.Common.{◌≡◌, ◌↔◌, ◌<◌, ℕ, false, get_or, length, true}
-use Rattle.asn_graph.specs.Graphs.{NeedsNoCycle}
+use Rattle.std.proofs.Common.{◌≡◌, ◌++◌, drop, map}
+use Rattle.std.specs.Prelude.{not}
 use Rattle.asn_circles.proofs.circles.free_nodes.Given as goal
 
-abbrev pub invariant-loop-node : goal.invariant-loop-node
-invariant-loop-node l = record {
-  long : length l.free ≡ l.node;
-  each : (x : ℕ) → x < l.node → ((get_or l.free x false ≡ true) ↔ NeedsNoCycle l.components.edges x);
-}
+abbrev pub invariant-loop-leads : goal.invariant-loop-leads
+invariant-loop-leads l = l.free ++ map not (drop l.leads-index l.leading) ≡ map not l.leading

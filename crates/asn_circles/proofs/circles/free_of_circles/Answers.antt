@@ -1,11 +1,20 @@
-use Rattle.asn_circles.proofs.Needed.{circles_told, names_ascend}
+use Rattle.std.proofs.Common.{ap, map, subst, ◌∙◌}
+use Rattle.std.specs.Prelude.{not}
+use Rattle.asn_graph.specs.Reach.{AreLeading}
+use Rattle.asn_circles.proofs.Needed.{as_many, circles_told, names_ascend}
 use Rattle.asn_circles.proofs.circles.free_of_circles.Goals as goal
 
 pub graph_of-requires : goal.graph_of-requires
 graph_of-requires c = names_ascend (λ d. d.now) c.args.names.now.definitions.now c.args.standing.now c.requires
 
+pub circular_nodes-requires : goal.circular_nodes-requires
+circular_nodes-requires c =
+    as_many (λ d. d.now) c.args.names.now.definitions.now c.args.standing.now c.requires c.in_ok-graph.graph c.in_ok-components.components.edges c.in_ok-graph.ensures c.in_ok-components.ensures
+
 pub returns : goal.returns
 returns c =
-    let defs = c.args.names.now.definitions.now in
-    circles_told (λ d. d.now) defs c.args.standing.now c.requires c.in_ok-graph.graph c.in_ok-components.components.edges c.in_ok-free.free
-    c.in_ok-graph.ensures c.in_ok-components.ensures c.in_ok-free.ensures
+    circles_told (λ d. d.now) c.args.names.now.definitions.now c.args.standing.now c.requires c.in_ok-graph.graph c.in_ok-components.components.edges
+    c.in_ok-circular.circular.items c.in_ok-leading.leading.items c.in_ok-free.free
+    c.in_ok-graph.ensures c.in_ok-components.ensures c.in_ok-circular.ensures
+    (subst (λ marked. AreLeading c.in_ok-components.components.edges marked c.in_ok-leading.leading.items) c.as_slice.ensures.value c.in_ok-leading.ensures)
+    (c.in_ok-free.ensures ∙ ap (map not) c.as_slice-2.ensures.value)
