@@ -11,9 +11,10 @@ use Rattle.asn_graph.specs.Graphs.{Edges as Graph, NeedsItself}
 use Rattle.asn_unchanged.specs.Unchanged.{is_unchanged}
 use Rattle.asn_index.specs.Definitions.{Definitions, IsStanding, last_named, name_of}
 use Rattle.asn_circles.specs.Circles.{FollowedAreFree, FollowersAre, FreeAre, Leads, at_once, further, LeadsToNoCircle}
-use Rattle.asn_circles.specs.inner.Drawn.{AreCircular, StandsAt}
+use Rattle.asn_name_graph.specs.Drawn.{StandsAt}
+use Rattle.asn_circles.specs.inner.Nodes.{AreCircular}
 use Rattle.asn_circles.specs.inner.Followed.{AreAllFree, AreTold, FollowEach}
-use Rattle.asn_circles.proofs.Added.{none_contained, one_contained}
+use Rattle.asn_name_graph.proofs.Added.{none_contained, one_contained}
 use Rattle.asn_circles.proofs.Needed.{names_ascend, names_through}
 use Rattle.asn_circles.proofs.Standing.{has_name, stands_for}
 

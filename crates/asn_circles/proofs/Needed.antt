@@ -12,9 +12,10 @@ use Rattle.asn_index.specs.Definitions.{Definitions, IsStanding, last_named, nam
 use Rattle.asn_references.specs.References.{references_of}
 use Rattle.asn_unchanged.specs.Unchanged.{is_unchanged}
 use Rattle.asn_circles.specs.Circles.{FreeAre, IsCircular, Leads, at_once, further, LeadsToNoCircle, Refers}
-use Rattle.asn_circles.specs.inner.Drawn.{AreCircular, AreFree, Ascend, IsDrawn, IsMentioned}
-use Rattle.asn_circles.proofs.Added.{none_contained}
-use Rattle.asn_circles.proofs.Ascending.{one_place}
+use Rattle.asn_name_graph.specs.Drawn.{Ascend, IsDrawn, IsMentioned}
+use Rattle.asn_circles.specs.inner.Nodes.{AreCircular, AreFree}
+use Rattle.asn_name_graph.proofs.Added.{none_contained}
+use Rattle.asn_name_graph.proofs.Ascending.{one_place}
 use Rattle.asn_circles.proofs.Standing.{has_name, stands_for}
 
 same_some : (d e : ToplevelDefinition) → Some d ≡ Some e → d ≡ e

@@ -10,8 +10,8 @@ use Rattle.std.proofs.lemmas.Slice.Eq.{bytes_eq-Decides}
 use Rattle.asn_tree.specs.declared.definitions.ToplevelDefinition.{ToplevelDefinition}
 use Rattle.asn_index.specs.Definitions.{Definitions, is_named, last_named, name_of}
 use Rattle.asn_index.proofs.Seen.{or_else}
-use Rattle.asn_circles.specs.inner.Drawn.{Ascend}
-use Rattle.asn_circles.proofs.Ascending.{tie}
+use Rattle.asn_name_graph.specs.Drawn.{Ascend}
+use Rattle.asn_name_graph.proofs.Ascending.{tie}
 
 -- a definition with the name, and its place
 pub record HasName (ds : Definitions) (name : List ℕ) (d : ToplevelDefinition) : Type 0 where

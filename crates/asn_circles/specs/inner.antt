@@ -1,3 +1,3 @@
 -- What private contracts alone cite.
-pub mod Drawn
+pub mod Nodes
 pub mod Followed

@@ -1,7 +1,7 @@
 //! Which definitions lead to no circle.
 
 ghost use Rattle.asn_circles.specs.Circles.{FreeAre};
-ghost use Rattle.asn_circles.specs.inner.Drawn.{AreCircular, AreFree};
+ghost use Rattle.asn_circles.specs.inner.Nodes.{AreCircular, AreFree};
 ghost use Rattle.asn_graph.specs.Reach.{AreLeading};
 ghost use Rattle.asn_index.specs.Definitions.{IsStanding};
 ghost use Rattle.asn_tree.specs.Calls.{name_of};

@@ -6,10 +6,9 @@ ghost use Rattle.asn_index.specs.Definitions.{IsStanding};
 ghost use Rattle.asn_tree.specs.Calls.{name_of};
 ghost use Rattle.std.specs.Prelude.{◌↔◌, IfOk, IsTrue, map};
 
-use crate::drawing::names_of;
-use crate::places::place_of;
 use asn_index::Names;
 use asn_memory::{List, Mem, Text};
+use asn_name_graph::{names_of, place_of};
 use asn_references::followed;
 use asn_tree::ToplevelDefinition;
 use std::alloc::Global;

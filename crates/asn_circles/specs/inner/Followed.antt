@@ -3,7 +3,7 @@ use Rattle.std.specs.Prelude.{◌↔◌, ℕ, List, Bool, Contains, IsSome, IsTr
 use Rattle.std.specs.List.{AllZip}
 use Rattle.asn_index.specs.Definitions.{Definitions, last_named}
 use Rattle.asn_circles.specs.Circles.{FollowedAreFree, FreeAre, LeadsToNoCircle}
-use Rattle.asn_circles.specs.inner.Drawn.{Ascend, StandsAt}
+use Rattle.asn_name_graph.specs.Drawn.{Ascend, StandsAt}
 
 -- these names ascend, each that has a definition is among them, and it is told of each whether it leads to no circle
 pub record AreTold (defs : Definitions) (names : List (List ℕ)) (free : List Bool) : Type 0 where

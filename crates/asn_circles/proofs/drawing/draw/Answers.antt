@@ -1,6 +1,6 @@
 use Rattle.std.proofs.Common.{map}
 use Rattle.asn_references.specs.References.{references_of}
-use Rattle.asn_circles.proofs.Added.{definitions_more}
+use Rattle.asn_name_graph.proofs.Added.{definitions_more}
 use Rattle.asn_circles.proofs.drawing.draw.Goals as goal
 
 pub loop-definition-preserved : goal.loop-definition-preserved

@@ -1,6 +1,6 @@
 use Rattle.std.proofs.Common.{map, take}
 use Rattle.asn_references.specs.References.{references_of}
-use Rattle.asn_circles.specs.inner.Drawn.{IsDrawn}
+use Rattle.asn_name_graph.specs.Drawn.{IsDrawn}
 use Rattle.asn_circles.proofs.drawing.draw.Given as goal
 
 abbrev pub invariant-loop-definition : goal.invariant-loop-definition

@@ -2,7 +2,7 @@ use Rattle.std.proofs.Common.{ap, length, map, sym, ◌∙◌}
 use Rattle.std.proofs.lemmas.List.{length-map}
 use Rattle.asn_tree.specs.Calls.{name_of}
 use Rattle.asn_references.specs.References.{references_of}
-use Rattle.asn_circles.proofs.Added.{edges_to_nodes}
+use Rattle.asn_name_graph.proofs.Added.{edges_to_nodes}
 use Rattle.asn_circles.proofs.drawing.graph_of.Goals as goal
 
 pub finished-requires : goal.finished-requires

@@ -12,7 +12,7 @@ use Rattle.std.proofs.lemmas.List.Sorted.{searchable_from_sorted}
 use Rattle.std.proofs.lemmas.Map.Keys.{Less-from_sorted}
 use Rattle.std.proofs.lemmas.Map.Text.{is_eq-slice_cmp}
 use Rattle.std.proofs.lemmas.Slice.Eq.{bytes_eq-Decides}
-use Rattle.asn_circles.specs.inner.Drawn.{Ascend, StandsAt}
+use Rattle.asn_name_graph.specs.Drawn.{Ascend, StandsAt}
 
 -- two texts that are as high are one
 pub tied : (a b : List ℕ) → slice_cmp nat_cmp a b ≡ Equal → a ≡ b

@@ -1,5 +1,5 @@
-use Rattle.asn_circles.proofs.Ascending.{absent, found}
-use Rattle.asn_circles.proofs.places.place_of.Goals as goal
+use Rattle.asn_name_graph.proofs.Ascending.{absent, found}
+use Rattle.asn_name_graph.proofs.places.place_of.Goals as goal
 
 pub returns-in-Ok-clause-found : goal.returns-in-Ok-clause-found
 returns-in-Ok-clause-found c = found (λ n. n.now) c.args.name.now c.args.names.now c.in-Ok.place c.in-Ok.ensures.bound c.in-Ok.ensures.ok

@@ -6,8 +6,9 @@ use Rattle.std.proofs.lemmas.Bool.{cases_lt}
 use Rattle.std.proofs.lemmas.List.{get_or_append_left, get_or_past, get_or_push, length-append, map_more}
 use Rattle.std.proofs.lemmas.List.Elements.{Contains-append_left, Contains-append_right, Contains-append_cases}
 use Rattle.asn_graph.specs.Graphs.{Edges as Graph, HasEdge, IsNode}
-use Rattle.asn_circles.specs.inner.Drawn.{AddsEdges, AddsNode, Ascend, IsDrawn, IsMentioned, StandsAt}
-use Rattle.asn_circles.proofs.Ascending.{one_place}
+use Rattle.asn_name_graph.specs.Drawn.{AddsNode, Ascend, IsDrawn, IsMentioned, StandsAt}
+use Rattle.asn_name_graph.specs.inner.Edges.{AddsEdges}
+use Rattle.asn_name_graph.proofs.Ascending.{one_place}
 
 -- the empty list contains nothing
 pub none_contained : {X : Type 0} (x : X) → Contains [] x → ⊥

@@ -1,6 +1,6 @@
 use Rattle.std.proofs.Common.{map}
-use Rattle.asn_circles.proofs.Added.{references_more}
-use Rattle.asn_circles.proofs.drawing.add_references.Goals as goal
+use Rattle.asn_name_graph.proofs.Added.{references_more}
+use Rattle.asn_name_graph.proofs.drawing.add_references.Goals as goal
 
 pub loop-reference-preserved : goal.loop-reference-preserved
 loop-reference-preserved c =

@@ -1,6 +1,6 @@
 use Rattle.std.proofs.Common.{◌≡◌, ◌++◌, drop, map}
 use Rattle.asn_tree.specs.Calls.{name_of}
-use Rattle.asn_circles.proofs.drawing.names_of.Given as goal
+use Rattle.asn_name_graph.proofs.names.names_of.Given as goal
 
 abbrev pub invariant-loop-definition : goal.invariant-loop-definition
 invariant-loop-definition l =

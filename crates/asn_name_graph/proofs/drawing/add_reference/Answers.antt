@@ -1,6 +1,6 @@
 use Rattle.std.proofs.Common.{map}
-use Rattle.asn_circles.proofs.Added.{edge_added}
-use Rattle.asn_circles.proofs.drawing.add_reference.Goals as goal
+use Rattle.asn_name_graph.proofs.Added.{edge_added}
+use Rattle.asn_name_graph.proofs.drawing.add_reference.Goals as goal
 
 pub returns-in_ok-add_edge-in-Some : goal.returns-in_ok-add_edge-in-Some
 returns-in_ok-add_edge-in-Some c =
