@@ -16,7 +16,7 @@ use Rattle.asn_circles.specs.inner.Nodes.{AreCircular}
 use Rattle.asn_circles.specs.inner.Followed.{AreAllFree, AreTold, FollowEach}
 use Rattle.asn_name_graph.proofs.Added.{none_contained, one_contained}
 use Rattle.asn_circles.proofs.Needed.{names_ascend, names_through}
-use Rattle.asn_circles.proofs.Standing.{has_name, stands_for}
+use Rattle.asn_name_graph.proofs.Standing.{has_name, stands_for}
 
 -- ---- one name
 

@@ -1,22 +1,23 @@
 -- What names lead to is what the nodes at their places need.
-use Rattle.std.proofs.Common.{◌≡◌, ℕ, zero, suc, ◌+◌, ◌<◌, ◌≤◌, ◌⊎◌, ◌↔◌, inl, inr, Bool, true, false, Option, Some, None}
+use Rattle.std.proofs.Common.{◌≡◌, ℕ, suc, ◌+◌, ◌<◌, ◌≤◌, ◌⊎◌, ◌↔◌, inl, inr, Bool, true, false, Option, Some, None}
 use Rattle.std.proofs.Common.{List, [], ◌∷◌, length, map, get_or, refl, sym, ap, ◌∙◌, subst, arith}
-use Rattle.std.specs.Prelude.{Contains, is_some, not}
+use Rattle.std.specs.Prelude.{Contains, is_some}
 use Rattle.std.specs.List.{AllZip}
 use Rattle.std.proofs.lemmas.Bool.{cases_lt}
 use Rattle.std.proofs.lemmas.List.{get_or-map, get_or_past, length-map}
+use Rattle.std.proofs.lemmas.Simd.{map-map}
 use Rattle.asn_tree.specs.declared.definitions.ToplevelDefinition.{ToplevelDefinition}
 use Rattle.asn_graph.specs.Graphs.{Edges as Graph, HasEdge, Needs, at_once as needs_at_once, further as needs_further}
-use Rattle.asn_graph.specs.Reach.{AreLeading, IsMarked, LeadsToMarked}
+use Rattle.asn_graph.specs.Reach.{AreFree, IsMarked, LeadsToMarked}
 use Rattle.asn_index.specs.Definitions.{Definitions, IsStanding, last_named, name_of}
 use Rattle.asn_references.specs.References.{references_of}
 use Rattle.asn_unchanged.specs.Unchanged.{is_unchanged}
 use Rattle.asn_circles.specs.Circles.{FreeAre, IsCircular, Leads, at_once, further, LeadsToNoCircle, Refers}
 use Rattle.asn_name_graph.specs.Drawn.{Ascend, IsDrawn, IsMentioned}
-use Rattle.asn_circles.specs.inner.Nodes.{AreCircular, AreFree}
+use Rattle.asn_circles.specs.inner.Nodes.{AreCircular}
 use Rattle.asn_name_graph.proofs.Added.{none_contained}
 use Rattle.asn_name_graph.proofs.Ascending.{one_place}
-use Rattle.asn_circles.proofs.Standing.{has_name, stands_for}
+use Rattle.asn_name_graph.proofs.Standing.{has_name, stands_for}
 
 same_some : (d e : ToplevelDefinition) → Some d ≡ Some e → d ≡ e
 same_some d e h = cc
@@ -181,52 +182,20 @@ module _ (defs ds : Definitions) (g : Graph) (standing : IsStanding defs ds) (dr
             let k : i < length ds = omega (arith, free_long, long) in
             iff_through (told.each i h) (free_iff i k)
 
--- the nodes that lead to no marked one, where it is told of each whether it leads to one
-free_left : (g : Graph) (marked leading free : List Bool) → AreLeading g marked leading → free ≡ map not leading → AreFree g marked free
-free_left g marked leading free told is = record { long = long; each = each }
-  where
-    same : length free ≡ length leading
-    same = ap length is ∙ length-map leading not
-
-    long : length free + 1 ≡ length g.starts
-    long = let a : length leading + 1 ≡ length g.starts = told.long in omega (arith, same, a)
-
-    turned : (b : Bool) {P : Type 0} → ((b ≡ true) ↔ P) → ((not b ≡ true) ↔ (P → ⊥))
-    turned true h = ((λ e. absurd cc), (λ f. absurd (f (h.0 refl))))
-    turned false h = ((λ e p. (let t = h.1 p in absurd cc)), (λ f. refl))
-
-    each : (x : ℕ) → x < length free → (get_or free x false ≡ true) ↔ (LeadsToMarked g marked x → ⊥)
-    each x h =
-        let k : x < length leading = omega (arith, same, h) in
-        let l : length leading + 1 ≡ length g.starts = told.long in
-        let at : get_or free x false ≡ not (get_or leading x true) = ap (λ bs. get_or bs x false) is ∙ get_or-map not leading x true false k in
-        let there : get_or leading x true ≡ get_or leading x false = get_or_any leading x k in
-        subst (λ b. (b ≡ true) ↔ (LeadsToMarked g marked x → ⊥)) (sym (at ∙ ap not there)) (turned (get_or leading x false) (told.each x (omega (arith, k, l))))
-      where
-        get_or_any : (bs : List Bool) (x : ℕ) → x < length bs → get_or bs x true ≡ get_or bs x false
-        get_or_any [] x h = absurd (omega (arith, h))
-        get_or_any (b ∷ bs) zero h = refl
-        get_or_any (b ∷ bs) (suc x) h = get_or_any bs x (omega (arith, h))
-
-pub map_through : {X Y Z : Type 0} (f : Y → Z) (h : X → Y) (xs : List X) → map f (map h xs) ≡ map (λ x. f (h x)) xs
-map_through f h [] = refl
-map_through f h (x ∷ xs) = ap (λ ys. f (h x) ∷ ys) (map_through f h xs)
-
 module _ {X : Type 0} (f : X → ToplevelDefinition) (defs : Definitions) (xs : List X) (standing : IsStanding defs (map f xs)) where
   pub names_through : map name_of (map f xs) ≡ map (λ x. name_of (f x)) xs
-  names_through = map_through name_of f xs
+  names_through = map-map name_of f xs
 
   -- the names of definitions that stand ascend
   pub names_ascend : Ascend (map (λ x. name_of (f x)) xs)
   names_ascend = subst Ascend names_through standing.ascending
 
   -- what the components of the graph of names tell
-  pub circles_told : (drawn made : Graph) (marked leading free : List Bool) → IsDrawn (map (λ x. name_of (f x)) xs) (map (λ x. references_of (f x)) xs) drawn →
-      made ≡ drawn → AreCircular made (map f xs) marked → AreLeading made marked leading → free ≡ map not leading → FreeAre defs (map (λ x. name_of (f x)) xs) free
-  circles_told drawn made marked leading free is same circular told others =
+  pub circles_told : (drawn made : Graph) (marked free : List Bool) → IsDrawn (map (λ x. name_of (f x)) xs) (map (λ x. references_of (f x)) xs) drawn →
+      made ≡ drawn → AreCircular made (map f xs) marked → AreFree made marked free → FreeAre defs (map (λ x. name_of (f x)) xs) free
+  circles_told drawn made marked free is same circular left =
       let names_so = subst (λ ns. IsDrawn ns (map (λ x. references_of (f x)) xs) drawn) (sym names_through) is in
-      let graph = subst (λ rs. IsDrawn (map name_of (map f xs)) rs drawn) (sym (map_through references_of f xs)) names_so in
-      let left = free_left made marked leading free told others in
+      let graph = subst (λ rs. IsDrawn (map name_of (map f xs)) rs drawn) (sym (map-map references_of f xs)) names_so in
       subst (λ ns. FreeAre defs ns free) names_through
       (free_are defs (map f xs) made standing (subst (IsDrawn (map name_of (map f xs)) (map references_of (map f xs))) (sym same) graph) marked circular free left)
 

@@ -1,14 +1,13 @@
 //! Which definitions lead to no circle.
 
 ghost use Rattle.asn_circles.specs.Circles.{FreeAre};
-ghost use Rattle.asn_circles.specs.inner.Nodes.{AreCircular, AreFree};
-ghost use Rattle.asn_graph.specs.Reach.{AreLeading};
+ghost use Rattle.asn_circles.specs.inner.Nodes.{AreCircular};
 ghost use Rattle.asn_index.specs.Definitions.{IsStanding};
 ghost use Rattle.asn_tree.specs.Calls.{name_of};
 ghost use Rattle.std.specs.Prelude.{◌≡◌, ◌+◌, ◌&&◌, not, IfOk, length, map};
 
 use crate::drawing::graph_of;
-use asn_graph::{Components, leading_nodes};
+use asn_graph::{Components, free_nodes};
 use asn_index::Names;
 use asn_memory::{List, Mem};
 use asn_tree::ToplevelDefinition;
@@ -38,17 +37,6 @@ fn circular_nodes(
     Ok(marked)
 }
 
-/// For each node, whether it does not lead to a marked one.
-fn free_nodes(alloc: Global, leading: &[bool]) -> Mem<List<bool>>
-    ensures { IfOk result (λ free. free ≡ map not leading.now) }
-{
-    let mut free = List::new(alloc);
-    for leads in leading {
-        free.add(!*leads)?;
-    }
-    Ok(free)
-}
-
 /// For each of the definitions that stand, in their order, whether it leads to no circle: neither it nor any that it leads to is
 /// changed by linking and leads to itself. `standing` is what `Names::standing` gives of `names`. The work is linear in the names that
 /// definitions mention, but for a search by halves for each, and for names that lead to each other, whose edges may be gone over more
@@ -68,7 +56,6 @@ pub fn free_of_circles<'t>(
     let graph = graph_of(alloc, standing)?;
     let components = Components::of(alloc, graph)?;
     let circular = circular_nodes(alloc, &components, standing)?;
-    let leading = leading_nodes(alloc, &components, circular.as_slice())?;
-    let free = free_nodes(alloc, leading.as_slice())?;
+    let free = free_nodes(alloc, &components, circular.as_slice())?;
     Ok(free)
 }

@@ -1,22 +1,13 @@
 -- What is told of nodes that lead to marked ones.
-use Rattle.std.proofs.Common.{◌≡◌, ℕ, zero, suc, ◌+◌, ◌<◌, ◌≤◌, ◌⊎◌, inl, inr, Bool, true, false, List, [], ◌∷◌, length, get_or, refl, ap, sym, ◌∙◌, subst, arith, get_or-set_same, get_or-set_other}
+use Rattle.std.proofs.Common.{◌≡◌, ℕ, zero, suc, ◌+◌, ◌<◌, ◌≤◌, ◌⊎◌, inl, inr, Bool, true, false, List, [], ◌∷◌, length, map, get_or, refl, ap, sym, ◌∙◌, subst, arith, get_or-set_same, get_or-set_other}
 use Rattle.std.proofs.Math.ListN.{set}
+use Rattle.std.specs.Prelude.{◌↔◌, not}
+use Rattle.std.proofs.lemmas.List.{get_or-map, length-map}
 use Rattle.std.proofs.lemmas.Bool.{cases_eq, cases_lt}
 use Rattle.asn_graph.specs.Graphs.{Edges, edges_of, HasEdge, IsNode, IsOrder, Needs, at_once, further}
-use Rattle.asn_graph.specs.Reach.{AreLeading, IsMarked, LeadsToMarked}
+use Rattle.asn_graph.specs.Reach.{AreFree, AreLeading, IsMarked, LeadsToMarked}
 use Rattle.asn_graph.specs.inner.Spread.{AreSpread, IsClosed, LeadsOn, missing}
 use Rattle.asn_graph.proofs.Orders.{has_at, has_place}
-
--- ---- edges
-
--- an edge gone by, one further: no target is told
-pub none_further : (targets : List ℕ) (told : List Bool) (first k : ℕ) → ((j : ℕ) → first ≤ j → j < k → get_or told (get_or targets j 0) false ≡ true → ⊥) →
-    (get_or told (get_or targets k 0) false ≡ true → ⊥) → (j : ℕ) → first ≤ j → j < k + 1 → get_or told (get_or targets j 0) false ≡ true → ⊥
-none_further targets told first k before now j low high e = go (cases_lt j k)
-  where
-    go : (j < k) ⊎ (k ≤ j) → ⊥
-    go (inl l) = before j low l e
-    go (inr l) = let same : j ≡ k = omega arith in now (subst (λ i. get_or told (get_or targets i 0) false ≡ true) same e)
 
 -- ---- one more node is told
 
@@ -73,9 +64,6 @@ module _ (g : Edges) where
       joined e (at_once f) = further (at_once e) f
       joined e (further n f) = further (joined e n) f
 
-  pub spread_nothing : (told : List Bool) → AreSpread g told told
-  spread_nothing told = record { stays = λ x m. m; led = λ x m. inl m }
-
   pub spread_on : (before told : List Bool) (node : ℕ) → AreSpread g before told → LeadsOn g told node → AreSpread g before (set told node true)
   spread_on before told node s (y, e, m) = record { stays = λ x n. marked_still told node x (s.stays x n); led = λ x n. go x (marked_before told node x n) }
     where
@@ -122,3 +110,30 @@ order_within g order is i h = (is.nodes (get_or order i 0)).0 (has_at order i h)
 -- a graph by its two lists
 pub edges_same : (g : Edges) (starts targets : List ℕ) → starts ≡ g.starts → targets ≡ g.targets → edges_of starts targets ≡ g
 edges_same g starts targets e f = ap (λ s. edges_of s targets) e ∙ ap (λ t. edges_of g.starts t) f
+
+-- the nodes that lead to no marked one, where it is told of each whether it leads to one
+pub free_left : (g : Edges) (marked leading free : List Bool) → AreLeading g marked leading → free ≡ map not leading → AreFree g marked free
+free_left g marked leading free told is = record { long = long; each = each }
+  where
+    same : length free ≡ length leading
+    same = ap length is ∙ length-map leading not
+
+    long : length free + 1 ≡ length g.starts
+    long = let a : length leading + 1 ≡ length g.starts = told.long in omega (arith, same, a)
+
+    turned : (b : Bool) {P : Type 0} → ((b ≡ true) ↔ P) → ((not b ≡ true) ↔ (P → ⊥))
+    turned true h = ((λ e. absurd cc), (λ f. absurd (f (h.0 refl))))
+    turned false h = ((λ e p. (let t = h.1 p in absurd cc)), (λ f. refl))
+
+    each : (x : ℕ) → x < length free → (get_or free x false ≡ true) ↔ (LeadsToMarked g marked x → ⊥)
+    each x h =
+        let k : x < length leading = omega (arith, same, h) in
+        let l : length leading + 1 ≡ length g.starts = told.long in
+        let at : get_or free x false ≡ not (get_or leading x true) = ap (λ bs. get_or bs x false) is ∙ get_or-map not leading x true false k in
+        let there : get_or leading x true ≡ get_or leading x false = get_or_any leading x k in
+        subst (λ b. (b ≡ true) ↔ (LeadsToMarked g marked x → ⊥)) (sym (at ∙ ap not there)) (turned (get_or leading x false) (told.each x (omega (arith, k, l))))
+      where
+        get_or_any : (bs : List Bool) (x : ℕ) → x < length bs → get_or bs x true ≡ get_or bs x false
+        get_or_any [] x h = absurd (omega (arith, h))
+        get_or_any (b ∷ bs) zero h = refl
+        get_or_any (b ∷ bs) (suc x) h = get_or_any bs x (omega (arith, h))

@@ -1,5 +1,5 @@
 -- Which nodes of a graph lead to a marked one.
-use Rattle.std.specs.Prelude.{◌≡◌, ◌↔◌, ◌⊎◌, ◌+◌, ℕ, List, Bool, false, length, IsTrue, slice_index_or}
+use Rattle.std.specs.Prelude.{◌≡◌, ◌↔◌, ◌⊎◌, ◌+◌, ◌<◌, ℕ, List, Bool, false, length, IsTrue, slice_index_or}
 use Rattle.asn_graph.specs.Graphs.{Edges, IsNode, Needs}
 
 -- the node is marked
@@ -14,3 +14,8 @@ LeadsToMarked g marked x = IsMarked marked x ⊎ ((y : ℕ) × Needs g x y × Is
 pub record AreLeading (g : Edges) (marked told : List Bool) : Type 0 where
   pub long : length told + 1 ≡ length g.starts
   pub each : (x : ℕ) → IsNode g x → (IsTrue (slice_index_or told x false) ↔ LeadsToMarked g marked x)
+
+-- for each node, whether it leads to no marked one
+pub record AreFree (g : Edges) (marked free : List Bool) : Type 0 where
+  pub long : length free + 1 ≡ length g.starts
+  pub each : (x : ℕ) → x < length free → (IsTrue (slice_index_or free x false) ↔ (LeadsToMarked g marked x → ⊥))

@@ -17,4 +17,4 @@ mod tables;
 pub use builder::GraphBuilder;
 pub use components::Components;
 pub use graph::Graph;
-pub use reach::leading_nodes;
+pub use reach::free_nodes;

@@ -1,14 +1,14 @@
 //! Nodes that lead to marked ones: what is told goes back along the edges, until nothing more is told.
 
 ghost use Rattle.asn_graph.specs.Graphs.{edges_of, IsGraph};
-ghost use Rattle.asn_graph.specs.Reach.{AreLeading, IsMarked};
+ghost use Rattle.asn_graph.specs.Reach.{AreFree, AreLeading, IsMarked};
 ghost use Rattle.asn_graph.specs.inner.Spread.{AreSpread, IsClosed, LeadsOn, missing};
-ghost use Rattle.std.specs.Prelude.{◌≡◌, ◌↔◌, ◌<◌, ◌+◌, ℕ, false, true, IfOk, IsTrue, length, slice_index};
+ghost use Rattle.std.specs.Prelude.{◌≡◌, ◌↔◌, ◌<◌, ◌+◌, ℕ, false, true, IfOk, IsTrue, length, map, not, slice_index};
 
 use crate::components::Components;
 use crate::steps::{end_of, target_at};
 use crate::tables::start_of;
-use asn_memory::Mem;
+use asn_memory::{List, Mem};
 use std::alloc::Global;
 
 /// Whether an edge of the node leads to a node that is told.
@@ -72,13 +72,10 @@ fn copied(alloc: Global, marked: &[bool]) -> Mem<Vec<bool>>
     Ok(told)
 }
 
-/// For each node of the graph, whether it is marked or leads to one that is, in one step or more. Edges are gone over as often as
-/// something more is told, and once more; as the order has needs first, that is more than twice only within a component.
+/// For each node of the graph, whether it is marked or leads to one that is, in one step or more.
 ///
-/// # Errors
-///
-/// Want of memory.
-pub fn leading_nodes(alloc: Global, components: &Components, marked: &[bool]) -> Mem<Vec<bool>>
+/// Err: want of memory.
+fn leading_nodes(alloc: Global, components: &Components, marked: &[bool]) -> Mem<Vec<bool>>
     requires { length marked.now + 1 ≡ length components.now.edges.starts }
     ensures { IfOk result (λ told. AreLeading components.now.edges marked.now told.items) }
 {
@@ -87,4 +84,30 @@ pub fn leading_nodes(alloc: Global, components: &Components, marked: &[bool]) ->
     let mut told = copied(alloc, marked)?;
     while tell_more(starts, targets, components.order(), &mut told) {}
     Ok(told)
+}
+
+/// For each of these, the other truth value.
+fn others(alloc: Global, leading: &[bool]) -> Mem<List<bool>>
+    ensures { IfOk result (λ others. others ≡ map not leading.now) }
+{
+    let mut others = List::new(alloc);
+    for leads in leading {
+        others.add(!*leads)?;
+    }
+    Ok(others)
+}
+
+/// For each node of the graph, whether it is not marked, and leads to none that is, in one step or more. Edges are gone over as often as
+/// a node more is found to lead to one, and once more; as the order has needs first, that is more than twice only within a component.
+///
+/// # Errors
+///
+/// Want of memory.
+pub fn free_nodes(alloc: Global, components: &Components, marked: &[bool]) -> Mem<List<bool>>
+    requires { length marked.now + 1 ≡ length components.now.edges.starts }
+    ensures { IfOk result (λ free. AreFree components.now.edges marked.now free) }
+{
+    let leading = leading_nodes(alloc, components, marked)?;
+    let free = others(alloc, leading.as_slice())?;
+    Ok(free)
 }

@@ -1,7 +1,6 @@
 -- What is told of the nodes of the graph of names.
-use Rattle.std.specs.Prelude.{◌≡◌, ◌↔◌, ◌<◌, ◌+◌, ℕ, Bool, false, List, length, IsTrue, slice_index_or}
+use Rattle.std.specs.Prelude.{◌≡◌, ◌↔◌, ◌<◌, ℕ, Bool, false, List, length, IsTrue, slice_index_or}
 use Rattle.asn_graph.specs.Graphs.{Edges, NeedsItself}
-use Rattle.asn_graph.specs.Reach.{LeadsToMarked}
 use Rattle.asn_tree.specs.declared.definitions.ToplevelDefinition.{ToplevelDefinition}
 use Rattle.asn_index.specs.Definitions.{Definitions}
 use Rattle.asn_unchanged.specs.Unchanged.{is_unchanged}
@@ -11,8 +10,3 @@ pub record AreCircular (g : Edges) (definitions : Definitions) (marked : List Bo
   pub long : length marked ≡ length definitions
   pub each : (x : ℕ) (d : ToplevelDefinition) → x < length definitions →
       (IsTrue (slice_index_or marked x false) ↔ (NeedsItself g x × (is_unchanged (slice_index_or definitions x d) ≡ false)))
-
--- for each node, whether it leads to no marked one
-pub record AreFree (g : Edges) (marked free : List Bool) : Type 0 where
-  pub long : length free + 1 ≡ length g.starts
-  pub each : (x : ℕ) → x < length free → (IsTrue (slice_index_or free x false) ↔ (LeadsToMarked g marked x → ⊥))

@@ -1,6 +1,5 @@
-use Rattle.std.proofs.Common.{ap, map, subst, ◌∙◌}
-use Rattle.std.specs.Prelude.{not}
-use Rattle.asn_graph.specs.Reach.{AreLeading}
+use Rattle.std.proofs.Common.{subst}
+use Rattle.asn_graph.specs.Reach.{AreFree}
 use Rattle.asn_circles.proofs.Needed.{as_many, circles_told, names_ascend}
 use Rattle.asn_circles.proofs.circles.free_of_circles.Goals as goal
 
@@ -14,7 +13,6 @@ circular_nodes-requires c =
 pub returns : goal.returns
 returns c =
     circles_told (λ d. d.now) c.args.names.now.definitions.now c.args.standing.now c.requires c.in_ok-graph.graph c.in_ok-components.components.edges
-    c.in_ok-circular.circular.items c.in_ok-leading.leading.items c.in_ok-free.free
+    c.in_ok-circular.circular.items c.in_ok-free.free
     c.in_ok-graph.ensures c.in_ok-components.ensures c.in_ok-circular.ensures
-    (subst (λ marked. AreLeading c.in_ok-components.components.edges marked c.in_ok-leading.leading.items) c.as_slice.ensures.value c.in_ok-leading.ensures)
-    (c.in_ok-free.ensures ∙ ap (map not) c.as_slice-2.ensures.value)
+    (subst (λ marked. AreFree c.in_ok-components.components.edges marked c.in_ok-free.free) c.as_slice.ensures.value c.in_ok-free.ensures)
