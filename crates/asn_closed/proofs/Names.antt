@@ -33,6 +33,16 @@ same_some x y h = cc
 no_some : {A : Type 0} (x : A) → None ≡ Some x → ⊥
 no_some x h = absurd cc
 
+-- ---- truth values
+
+unlike : (b : Bool) → (b ≡ true → ⊥) → b ≡ false
+unlike true f = absurd (f refl)
+unlike false f = refl
+
+neither : (a b : Bool) → (a || b) ≡ false → (a ≡ false) × (b ≡ false)
+neither false b e = (refl, e)
+neither true b e = absurd cc
+
 -- ---- lists
 
 zip_at : {A B : Type 0} (R : A → B → Type 0) (xs : List A) (ys : List B) (i : ℕ) (a : A) (b : B) → AllZip R xs ys → i < length xs → R (get_or xs i a) (get_or ys i b)
@@ -58,10 +68,6 @@ closed_at (n ∷ names) (c ∷ closed) name zero l h e others = ap (λ b. if b t
 closed_at (n ∷ names) (c ∷ closed) name (suc x) l h e others =
     ap (λ b. if b then c else is_closed_name names closed name) (unlike (bytes_eq n name) (λ t. others 0 (omega arith) ((bytes_eq-Decides n name).0 t)))
     ∙ closed_at names closed name x (omega (arith, l)) (omega (arith, h)) e (λ i k f. others (suc i) (omega (arith, k)) f)
-  where
-    unlike : (b : Bool) → (b ≡ true → ⊥) → b ≡ false
-    unlike true f = absurd (f refl)
-    unlike false f = refl
 
 closed_elsewhere : (names : List (List ℕ)) (closed : List Bool) (name : List ℕ) → ((i : ℕ) → i < length names → get_or names i [] ≡ name → ⊥) → is_closed_name names closed name ≡ true
 closed_elsewhere [] closed name none = refl
@@ -69,10 +75,6 @@ closed_elsewhere (n ∷ names) [] name none = refl
 closed_elsewhere (n ∷ names) (c ∷ closed) name none =
     ap (λ b. if b then c else is_closed_name names closed name) (unlike (bytes_eq n name) (λ t. none 0 (omega arith) ((bytes_eq-Decides n name).0 t)))
     ∙ closed_elsewhere names closed name (λ i h e. none (suc i) (omega (arith, h)) e)
-  where
-    unlike : (b : Bool) → (b ≡ true → ⊥) → b ≡ false
-    unlike true f = absurd (f refl)
-    unlike false f = refl
 
 -- what holds of all of a list
 all_true : {A : Type 0} (f : A → Bool) (xs : List A) → ((x : A) → Contains xs x → f x ≡ true) → list_all f xs ≡ true
@@ -83,15 +85,7 @@ all_true f (x ∷ xs) h = ap (λ b. b && list_all f xs) (h x (0, omega arith, re
 none_true : {A : Type 0} (f : A → Bool) (xs : List A) (x : A) → list_any f xs ≡ false → Contains xs x → f x ≡ false
 none_true f [] x e (k, lt, is) = absurd (omega (arith, lt))
 none_true f (y ∷ xs) x e (zero, lt, is) = ap f (sym is) ∙ (neither (f y) (list_any f xs) e).0
-  where
-    neither : (a b : Bool) → (a || b) ≡ false → (a ≡ false) × (b ≡ false)
-    neither false b e = (refl, e)
-    neither true b e = absurd cc
 none_true f (y ∷ xs) x e (suc k, lt, is) = none_true f xs x (neither (f y) (list_any f xs) e).1 (k, omega (arith, lt), is)
-  where
-    neither : (a b : Bool) → (a || b) ≡ false → (a ≡ false) × (b ≡ false)
-    neither false b e = (refl, e)
-    neither true b e = absurd cc
 
 plain_there : (xs : List StayingName) (x : StayingName) (name : List ℕ) → Contains xs x → plain_name x ≡ name ∷ [] → Contains (plain_names xs) name
 plain_there [] x name (k, lt, is) e = absurd (omega (arith, lt))
@@ -189,10 +183,6 @@ module _ (stay : NamesThatStay) (defs others ds : Definitions) (made : Made) (cl
   -- nor does a field of an object stay in it
   no_field : (x : ℕ) (d : ToplevelTypeDefinition) (ty : ASN1Type) → x < length ds → get_or closed x false ≡ true → get_or ds x (TypeDef d) ≡ TypeDef d → get_or made x None ≡ Some ty → has_field (staying_names ty) ≡ false
   no_field x d ty h e is m = unlike (has_field (staying_names ty)) (λ t. free_there x h e (inl (open_at ds made x (TypeDef d) made_long h ∙ ap (λ y. is_open y (get_or made x None)) is ∙ ap is_left_open m ∙ t)))
-    where
-      unlike : (b : Bool) → (b ≡ true → ⊥) → b ≡ false
-      unlike true f = absurd (f refl)
-      unlike false f = refl
 
   names_stay : (x : ℕ) (d : ToplevelTypeDefinition) (ty : ASN1Type) → x < length ds → get_or closed x false ≡ true → get_or ds x (TypeDef d) ≡ TypeDef d → get_or made x None ≡ Some ty → NamesStay keeps ty
   names_stay x d ty h e is m = (stay ty keeps).1 (all_true (may_stay keeps) (staying_names ty) each)

@@ -3,16 +3,21 @@
 //! A line `====` stands behind each text but the last. All definitions of a text's modules, in order, are the definitions in sight. Of a
 //! text it writes a line for each type definition that stands and has no parameters, in byte order of their names: `Name ::= INTEGER`
 //! tells the instance of its type, the definition's own tag aside; `Name none` that there is none within the levels; `Name memory` that
-//! the steps, or the room of an instance, are used up. Where nothing was read, one line tells that. The last line says how many texts
-//! there were.
+//! the steps, or the room of an instance, are used up. Behind these lines, `open` and names tell which of the text's type definitions are
+//! not closed, so that they can't be linked together with the others; or `open memory` that the steps or the room are used up. Where
+//! nothing was read, one line tells that. The last line says how many texts there were.
 #![tactic(auto)]
 
 mod sight;
+
+ghost use Rattle.asn_index.specs.Definitions.{IsStanding};
+ghost use Rattle.std.specs.Prelude.{map};
 
 use crate::sight::in_sight;
 use asn_derivation::SpecError;
 use asn_heads::{Place, Scope, TypeForm};
 use asn_index::Names;
+use asn_instances::{Limits, link_types};
 use asn_link::{Room, instance_of_type};
 use asn_listing::write_type;
 use asn_memory::{List, Mem, Text};
@@ -91,6 +96,43 @@ fn write_definition<'a>(
     }
 }
 
+/// Writes the names of those of these definitions that are not closed.
+fn write_open_names(
+    out: &mut Text,
+    definitions: &[&ToplevelDefinition],
+    closed: &[bool],
+) -> Mem<()> {
+    for (i, definition) in definitions.iter().enumerate() {
+        if closed.get(i) == Some(&false) {
+            out.push_str(" ")?;
+            out.push_str(definition.name().as_str())?;
+        }
+    }
+    Ok(())
+}
+
+/// Writes which of the definitions that stand are not closed.
+fn write_open<'a>(
+    alloc: Global,
+    out: &mut Text,
+    names: &Names<'a>,
+    standing: &[&'a ToplevelDefinition],
+) -> Mem<()>
+    requires { IsStanding names.now.definitions.now (map (λ d. d.now) standing.now) }
+{
+    let limits = Limits {
+        steps: STEPS,
+        levels: LEVELS,
+        room: ROOM,
+    };
+    out.push_str("open")?;
+    match link_types(alloc, names, limits, standing) {
+        Ok(linked) => write_open_names(out, standing, linked.closed.as_slice())?,
+        Err(_) => out.push_str(" memory")?,
+    }
+    out.push_str("\n")
+}
+
 /// Writes the lines of these definitions, as far as they stand.
 fn write_definitions(
     alloc: Global,
@@ -102,7 +144,7 @@ fn write_definitions(
     for definition in standing.as_slice() {
         write_definition(alloc, out, &names, *definition)?;
     }
-    Ok(())
+    write_open(alloc, out, &names, standing.as_slice())
 }
 
 /// Writes the lines of what was read, or that nothing was.

@@ -1,0 +1,12 @@
+//! The instances of all definitions: what linking makes of each type definition without parameters that leads to no circle.
+//!
+//! A room above the instance of one type (asn_link). Which of them can be linked together asn_closed tells.
+#![tactic(auto)]
+
+mod laws;
+mod linked;
+mod making;
+
+pub use laws::made_are_instances;
+pub use linked::{LinkedTypes, link_types};
+pub use making::{Limits, make_types};

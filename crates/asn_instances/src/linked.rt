@@ -1,0 +1,45 @@
+//! The types that linking makes, with which of their definitions can be linked together.
+
+ghost use Rattle.asn_index.specs.Definitions.{IsStanding};
+ghost use Rattle.asn_instances.specs.Linked.{AreLinkedTypes};
+ghost use Rattle.std.specs.Prelude.{◌+◌, ℕ, IfOk, map};
+
+use crate::making::{Limits, make_types};
+use asn_circles::free_of_circles;
+use asn_closed::closed_definitions;
+use asn_index::Names;
+use asn_memory::{List, Mem};
+use asn_tree::{ASN1Type, ToplevelDefinition};
+use std::alloc::Global;
+
+/// What linking makes of definitions, each in its turn.
+#[derive(Drop)]
+pub struct LinkedTypes {
+    /// The type that was made, where one was.
+    pub made: List<Option<ASN1Type>>,
+    /// Whether the definition is closed: it and all that its type leads to can be linked together.
+    pub closed: List<bool>,
+}
+
+/// What linking makes of each of the definitions that stand, in their order, and whether it is closed: the instance of the type of one
+/// that is no template and leads to no circle, where an instance lies within the levels. `standing` is what `Names::standing` gives of
+/// `names`. Where linking gives closed definitions these types, each name of one stands for a type that accepts and rejects the same
+/// trees as it did (`asn_closed::closed_definitions_close`, `asn_instance::closed_names_mean_the_same`).
+///
+/// # Errors
+///
+/// Want of memory, also where the steps or the room of an instance are used up.
+pub fn link_types<'a>(
+    alloc: Global,
+    names: &Names<'a>,
+    limits: Limits,
+    standing: &[&'a ToplevelDefinition],
+) -> Mem<LinkedTypes>
+    requires { IsStanding names.now.definitions.now (map (λ d. d.now) standing.now) }
+    ensures { IfOk result (λ linked. (m : ℕ) → AreLinkedTypes names.now.definitions.now (limits.steps + m) limits.levels (map (λ d. d.now) standing.now) linked.made linked.closed) }
+{
+    let free = free_of_circles(alloc, names, standing)?;
+    let made = make_types(alloc, names, limits, standing, free.as_slice())?;
+    let closed = closed_definitions(alloc, names, standing, made.as_slice())?;
+    Ok(LinkedTypes { made, closed })
+}

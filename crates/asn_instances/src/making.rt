@@ -1,0 +1,117 @@
+//! The types that linking makes, definition by definition.
+
+ghost use Rattle.asn_instances.specs.Made.{instance_of, made_each, made_of, made_where};
+ghost use Rattle.std.specs.Prelude.{◌≡◌, ◌+◌, ℕ, IfOk, length, map};
+
+use asn_heads::{Place, Scope, TypeForm};
+use asn_index::Names;
+use asn_link::{Room, instance_of_type};
+use asn_memory::{List, Mem};
+use asn_tree::{ASN1Type, ToplevelDefinition, ToplevelTypeDefinition};
+use std::alloc::Global;
+
+/// How far an instance is looked for.
+#[derive(Clone, Copy, Debug, PartialEq, Eq)]
+pub struct Limits {
+    /// The steps within which it is asked what a name leads to. Where they are used up, memory is wanted.
+    pub steps: usize,
+    /// The levels of names and parts that an instance may have. One that has more is none.
+    pub levels: usize,
+    /// The nodes that it may have. Where it has more, memory is wanted.
+    pub room: usize,
+}
+
+/// The instance of a definition's type.
+///
+/// None: there is none within the levels. Err: want of memory, also where the steps or the room are used up.
+fn instance_of<'a>(
+    alloc: Global,
+    names: &Names<'a>,
+    limits: Limits,
+    definition: &'a ToplevelTypeDefinition,
+) -> Mem<Option<ASN1Type>>
+    ensures { IfOk result (λ made. (m : ℕ) → made ≡ instance_of names.now.definitions.now (limits.steps + m) limits.levels definition.now) }
+{
+    let mut room = Room::new(limits.room);
+    let place = Place {
+        scope: Scope::Empty,
+        ty: TypeForm::Written(&definition.ty),
+    };
+    let made = instance_of_type(
+        alloc,
+        names,
+        limits.steps,
+        limits.levels,
+        &mut room,
+        false,
+        &place,
+    )?;
+    Ok(made)
+}
+
+/// What linking makes of a definition that leads to no circle: the instance of a type without parameters.
+///
+/// Err: want of memory, also where the steps or the room are used up.
+fn made_of<'a>(
+    alloc: Global,
+    names: &Names<'a>,
+    limits: Limits,
+    definition: &'a ToplevelDefinition,
+) -> Mem<Option<ASN1Type>>
+    ensures { IfOk result (λ made. (m : ℕ) → made ≡ made_of names.now.definitions.now (limits.steps + m) limits.levels definition.now) }
+{
+    match definition {
+        ToplevelDefinition::TypeDef(definition) => match &definition.parameterization {
+            None => {
+                let made = instance_of(alloc, names, limits, definition)?;
+                Ok(made)
+            }
+            Some(_) => Ok(None),
+        },
+        ToplevelDefinition::Value(_) => Ok(None),
+        ToplevelDefinition::Information(_) => Ok(None),
+    }
+}
+
+/// What linking makes of a definition, where it leads to no circle.
+///
+/// Err: want of memory, also where the steps or the room are used up.
+fn made_where<'a>(
+    alloc: Global,
+    names: &Names<'a>,
+    limits: Limits,
+    definition: &'a ToplevelDefinition,
+    is_free: bool,
+) -> Mem<Option<ASN1Type>>
+    ensures { IfOk result (λ made. (m : ℕ) → made ≡ made_where names.now.definitions.now (limits.steps + m) limits.levels definition.now is_free) }
+{
+    if is_free {
+        let made = made_of(alloc, names, limits, definition)?;
+        Ok(made)
+    } else {
+        Ok(None)
+    }
+}
+
+/// What linking makes of each of these definitions, in their order: the instance of the type of one without parameters, where `free` says
+/// of it that it leads to no circle and an instance lies within the levels; else nothing.
+///
+/// # Errors
+///
+/// Want of memory, also where the steps or the room of an instance are used up.
+pub fn make_types<'a>(
+    alloc: Global,
+    names: &Names<'a>,
+    limits: Limits,
+    definitions: &[&'a ToplevelDefinition],
+    free: &[bool],
+) -> Mem<List<Option<ASN1Type>>>
+    requires { length free.now ≡ length definitions.now }
+    ensures { IfOk result (λ made. (m : ℕ) → made ≡ made_each names.now.definitions.now (limits.steps + m) limits.levels (map (λ d. d.now) definitions.now) free.now) }
+{
+    let mut made = List::new(alloc);
+    for (i, definition) in definitions.iter().enumerate() {
+        made.add(made_where(alloc, names, limits, definition, free[i])?)?;
+    }
+    Ok(made)
+}
