@@ -1,4 +1,5 @@
--- Which definitions are closed: linking made the type of each, and each name that stays in it is that of a closed one.
+-- Which definitions are closed: linking made the type of each, and each name that stays in it is that of a closed one or has no
+-- definition.
 use Rattle.std.specs.Prelude.{◌++◌, ℕ, List, [], ◌∷◌, Bool, true, false, Option, Some, None, is_some, map}
 use Rattle.std.specs.List.{list_any}
 use Rattle.asn_tree.specs.declared.definitions.ToplevelDefinition.{ToplevelDefinition}

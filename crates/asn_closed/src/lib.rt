@@ -1,4 +1,4 @@
-//! Which definitions are closed: linking made the type of each, and each name that stays in it is that of a closed one.
+//! Which definitions are closed: linking made the type of each, and each name that stays in it is that of a closed one or has no definition.
 //!
 //! A room above the names that stay in a type (asn_staying) and the graph of names (asn_name_graph). It makes no type: what linking made
 //! of each definition the layer above hands in.

@@ -1,6 +1,5 @@
 //! Heads that lack what a name at a place asks of them: a CHOICE, an option, members.
 
-ghost use Rattle.asn_dummies.specs.Places.{shown_wanted};
 ghost use Rattle.asn_heads.specs.Places.{shown_place};
 ghost use Rattle.asn_heads.specs.Scopes.{shown};
 ghost use Rattle.asn_meaning.specs.Answers.{once};

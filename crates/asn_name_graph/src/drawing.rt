@@ -40,7 +40,7 @@ fn add_references(builder: &mut GraphBuilder, names: &[&Text], references: &[&Te
 ///
 /// # Errors
 ///
-/// Want of memory.
+/// Want of memory: then the node may stand with some of its edges, or not at all.
 #[tactic(auto, using(crate::proofs::Added::node_added))]
 pub fn add_mentions(builder: &mut GraphBuilder, names: &[&Text], mentioned: &[&Text]) -> Mem<()>
     requires { Ascend (map (λ n. n.now) names.now) }

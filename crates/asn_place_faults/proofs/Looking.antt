@@ -1,7 +1,7 @@
 -- What stands at one of the places of a definition.
-use Rattle.std.proofs.Common.{◌≡◌, ℕ, List, Bool, true, false, refl, sym, ap, ◌∙◌}
+use Rattle.std.proofs.Common.{◌≡◌, List, Bool, true, sym, ◌∙◌}
 use Rattle.std.specs.Prelude.{◌↔◌}
-use Rattle.std.specs.List.{Contains, list_any}
+use Rattle.std.specs.List.{list_any}
 use Rattle.asn_needs.specs.Faults.{IsSomewhere}
 use Rattle.asn_needs.specs.Sites.{Node, Seen, Site}
 use Rattle.asn_needs.proofs.Passing.{passes, some_passes}

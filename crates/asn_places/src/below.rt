@@ -1,7 +1,6 @@
 //! What stands in what stands at a place, one level down.
 
 ghost use Rattle.asn_heads.specs.Kinds.{shown_type};
-ghost use Rattle.asn_heads.specs.Places.{shown_place};
 ghost use Rattle.asn_heads.specs.Scopes.{shown};
 ghost use Rattle.asn_heads.specs.Values.{shown_value};
 ghost use Rattle.asn_needs.specs.PartsOfConstraints.{constraint_parts, element_parts, listed_parts, set_parts};
@@ -15,7 +14,7 @@ ghost use Rattle.asn_sites.specs.Sites.{shown_around, shown_site, shown_sites};
 ghost use Rattle.asn_tree.specs.declared.constraints.Constraint.{out-Constraint};
 ghost use Rattle.asn_tree.specs.declared.constraints.ElementOrSetOperation.{out-ElementOrSetOperation};
 ghost use Rattle.asn_tree.specs.declared.constraints.SubtypeElement.{out-SubtypeElement};
-ghost use Rattle.std.specs.Option.{option_copied, option_map};
+ghost use Rattle.std.specs.Option.{option_copied};
 ghost use Rattle.std.specs.Prelude.{◌≡◌, ◌+◌, ℕ, IfOk};
 
 use asn_argument_sites::with_argument_parts;

@@ -3,8 +3,6 @@
 ghost use Rattle.asn_needs.specs.Occurrences.{names_at};
 ghost use Rattle.asn_needs.specs.Sites.{seen};
 ghost use Rattle.asn_site_names.specs.Occurrences.{shown_occurrences};
-ghost use Rattle.asn_site_names.specs.inner.Governing.{lent_place};
-ghost use Rattle.asn_sites.specs.Forms.{shown_governor};
 ghost use Rattle.asn_sites.specs.Sites.{shown_site};
 ghost use Rattle.std.specs.Prelude.{◌≡◌, ◌+◌, ℕ, IfOk};
 
