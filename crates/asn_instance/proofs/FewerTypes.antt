@@ -26,7 +26,7 @@ use Rattle.asn_meaning.specs.Scopes.{Empty, Place, Scope, Target, bare}
 use Rattle.asn_meaning.specs.ValueTrees.{same_truth}
 use Rattle.asn_calls.specs.Types.{with_constraints_at}
 use Rattle.asn_instance.specs.Fewer.{AreFewer, with_names}
-use Rattle.asn_instance.specs.Instance.{Instances, constrained, element_instance, extended, field_instance, first_tag, followed_by, has_no_place, instance, instance_at, list_instance, member_instance, no_instance, of_constraints, of_members, of_options, option_instance, own_tag, placed_tag, replaced, risen, set_instance, stays, struct_instance, tag_instance, type_instance}
+use Rattle.asn_instance.specs.Instance.{Instances, constrained, element_instance, extended, field_instance, first_tag, followed_by, has_no_place, instance, instance_at, list_instance, member_instance, no_instance, of_constraints, of_members, of_options, option_instance, own_tag, placed_tag, places_left, replaced, risen, set_instance, stays, struct_instance, tag_instance, type_instance}
 use Rattle.asn_instance.specs.Staying.{Names, NamesStay, constraints_stay, kind_stays, member_stays, option_stays, staying}
 use Rattle.asn_instance.specs.Subjects.{Choices, Subject, perhaps}
 use Rattle.asn_instance.proofs.Forms.{own}
@@ -122,16 +122,16 @@ module _ (C : Choices) (fewer : Names) (defs : Definitions) (less : AreFewer few
   struct_again : (scope : Scope) (ty : ASN1Type) (x : StructLayer) → Holds (struct_instance C defs M I scope ty x) (λ y. MembersOk fewer y.members → AllOk fewer y.constraints → struct_instance D defs M J scope ty x ≡ Some y)
   struct_again scope ty x = at (M.members scope x)
     where
-      at : (o : Option (List Member)) → Holds {A = StructLayer} (once None o (λ ms. once None (of_members C defs M I (risen C defs M I x.extensible ms) 0 ms) (λ ws. once None (of_constraints C defs M I scope (place scope ty) x.constraints) (λ cs.
-          Some (record { components_of = []; components_at = []; extensible = risen C defs M I x.extensible ms; constraints = cs; members = ws })))))
-          (λ y. MembersOk fewer y.members → AllOk fewer y.constraints → once None o (λ ms. once None (of_members D defs M J (risen C defs M I x.extensible ms) 0 ms) (λ ws. once None (of_constraints D defs M J scope (place scope ty) x.constraints) (λ cs.
-          Some (record { components_of = []; components_at = []; extensible = risen C defs M I x.extensible ms; constraints = cs; members = ws })))) ≡ Some y)
+      at : (o : Option (List Member)) → Holds {A = StructLayer} (once None o (λ ms. once None (of_members C defs M I (risen C defs M I x ms) 0 ms) (λ ws. once None (of_constraints C defs M I scope (place scope ty) x.constraints) (λ cs.
+          Some (record { components_of = []; components_at = places_left C defs M I x; extensible = risen C defs M I x ms; constraints = cs; members = ws })))))
+          (λ y. MembersOk fewer y.members → AllOk fewer y.constraints → once None o (λ ms. once None (of_members D defs M J (risen C defs M I x ms) 0 ms) (λ ws. once None (of_constraints D defs M J scope (place scope ty) x.constraints) (λ cs.
+          Some (record { components_of = []; components_at = places_left C defs M I x; extensible = risen C defs M I x ms; constraints = cs; members = ws })))) ≡ Some y)
       at None = tt
       at (Some ms) =
-          then_holds (of_members C defs M I (risen C defs M I x.extensible ms) 0 ms) _ (λ ws. MembersOk fewer ws → of_members D defs M J (risen C defs M I x.extensible ms) 0 ms ≡ Some ws) _ (members_again (risen C defs M I x.extensible ms) 0 ms) (λ ws e u.
+          then_holds (of_members C defs M I (risen C defs M I x ms) 0 ms) _ (λ ws. MembersOk fewer ws → of_members D defs M J (risen C defs M I x ms) 0 ms ≡ Some ws) _ (members_again (risen C defs M I x ms) 0 ms) (λ ws e u.
           once_holds (of_constraints C defs M I scope (place scope ty) x.constraints) _ _ (λ cs g ws_ok cs_ok.
-          ap (λ z. once None z (λ ws. once None (of_constraints D defs M J scope (place scope ty) x.constraints) (λ cs. Some (record { components_of = []; components_at = []; extensible = risen C defs M I x.extensible ms; constraints = cs; members = ws })))) (u ws_ok)
-          ∙ ap (λ z. once None z (λ cs. Some (record { components_of = []; components_at = []; extensible = risen C defs M I x.extensible ms; constraints = cs; members = ws }))) (again scope (place scope ty) x.constraints cs g cs_ok)))
+          ap (λ z. once None z (λ ws. once None (of_constraints D defs M J scope (place scope ty) x.constraints) (λ cs. Some (record { components_of = []; components_at = places_left C defs M I x; extensible = risen C defs M I x ms; constraints = cs; members = ws })))) (u ws_ok)
+          ∙ ap (λ z. once None z (λ cs. Some (record { components_of = []; components_at = places_left C defs M I x; extensible = risen C defs M I x ms; constraints = cs; members = ws }))) (again scope (place scope ty) x.constraints cs g cs_ok)))
 
   abbrev OptionOk : OptionLayer → Type 0
   OptionOk w = (m : ℕ) → option_stays fewer (staying fewer m) w ≡ true

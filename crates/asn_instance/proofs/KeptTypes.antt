@@ -150,7 +150,7 @@ module _ (C : Choices) (defs others : Definitions) (j : ℕ) where
 
     struct_view : (x : StructLayer) → Holds (struct_instance C defs (meaning defs floor) (instance C defs floor i) scope ty x) (StructView x)
     struct_view x = once_holds ((meaning defs floor).members scope x) _ _ (λ ms e.
-        then_holds (of_members C defs (meaning defs floor) (instance C defs floor i) (risen C defs (meaning defs floor) (instance C defs floor i) x.extensible ms) 0 ms) _ (MadeMembers C defs floor i (risen C defs (meaning defs floor) (instance C defs floor i) x.extensible ms) 0 ms) _ (made_members _ 0 ms) (λ ws u p.
+        then_holds (of_members C defs (meaning defs floor) (instance C defs floor i) (risen C defs (meaning defs floor) (instance C defs floor i) x ms) 0 ms) _ (MadeMembers C defs floor i (risen C defs (meaning defs floor) (instance C defs floor i) x ms) 0 ms) _ (made_members _ 0 ms) (λ ws u p.
         once_holds (constraints_made C defs floor i scope (place scope ty) x.constraints) _ _ (λ cs f. record { made = (refl, (ms, e, p)); constraints = f })))
 
     record ListView (x y : ListLayer) : Type 0 where

@@ -165,15 +165,19 @@ module _ (C : Choices) (defs : Definitions) (M : Meaning) (I : Instances) where
       then once None (member_instance m.scope m.written) (λ w. once None (of_members marker (suc number) ms) (λ ws. Some (roll-SequenceOrSetMember w ∷ ws)))
       else None
 
-  -- The marker rises by the members that are put in before it.
-  abbrev pub risen : Option ℕ → List Member → Option ℕ
-  risen marker ms = once None marker (λ number. Some (length (root_members ms)))
+  -- The marker rises by the members that are put in before it; without COMPONENTS OF it stays.
+  abbrev pub risen : StructLayer → List Member → Option ℕ
+  risen x ms = if is_empty x.components_of then x.extensible else once None x.extensible (λ number. Some (length (root_members ms)))
+
+  -- the places of names after COMPONENTS OF, of which none is left
+  abbrev pub places_left : StructLayer → List (ℕ × Bool)
+  places_left x = if is_empty x.components_of then x.components_at else []
 
   -- a SEQUENCE or SET, with the members that COMPONENTS OF puts in at their place, each read in its own scope
   abbrev pub struct_instance : Scope → ASN1Type → StructLayer → Option StructLayer
   struct_instance scope ty x =
-      once None (M.members scope x) (λ ms. once None (of_members (risen x.extensible ms) 0 ms) (λ ws. once None (of_constraints scope (place scope ty) x.constraints) (λ cs.
-      Some (record { components_of = []; components_at = []; extensible = risen x.extensible ms; constraints = cs; members = ws }))))
+      once None (M.members scope x) (λ ms. once None (of_members (risen x ms) 0 ms) (λ ws. once None (of_constraints scope (place scope ty) x.constraints) (λ cs.
+      Some (record { components_of = []; components_at = places_left x; extensible = risen x ms; constraints = cs; members = ws }))))
 
   abbrev pub option_instance : Scope → OptionLayer → Option OptionLayer
   option_instance scope o = once None (I.of_type false scope o.ty) (λ ty. once None (of_constraints scope (place scope o.ty) o.constraints) (λ cs. once None (placed_tag scope o.tag o.ty) (λ tag. Some (record o { tag = tag; ty = ty; constraints = cs }))))

@@ -47,11 +47,16 @@ members_bound (Binds dummy governor argument scope others) name =
 members_bound (LeavesOpen dummy governor others) name = if bytes_eq dummy name then Reference name ∷ [] else members_bound others name
 
 -- the set of a table; its marker rises by the members that are put in before it, and that of an argument falls away
-abbrev pub table_bound : Scope → TableLayer → TableLayer
-table_bound scope x =
+abbrev pub table_opened : Scope → TableLayer → TableLayer
+table_opened scope x =
     record x {
       object_set = record {
         values = opened (members_bound scope) x.object_set.values;
         extensible = once None x.object_set.extensible (λ number. Some (length (opened (members_bound scope) (take number x.object_set.values))));
       };
     }
+
+-- where there are no dummies it stays
+abbrev pub table_bound : Scope → TableLayer → TableLayer
+table_bound Empty x = x
+table_bound scope x = table_opened scope x

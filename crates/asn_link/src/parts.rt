@@ -2,7 +2,7 @@
 
 ghost use Rattle.asn_heads.specs.Places.{shown_place};
 ghost use Rattle.asn_instance.specs.Instance.{part_named};
-ghost use Rattle.asn_link.specs.inner.Parts.{marker_behind, member_finished, option_finished};
+ghost use Rattle.asn_link.specs.inner.Parts.{marker_behind, member_finished, option_finished, places_behind};
 ghost use Rattle.asn_meaning.specs.Answers.{once};
 ghost use Rattle.asn_meaning.specs.Judge.{meaning};
 ghost use Rattle.asn_meaning.specs.Kinds.{kind_of};
@@ -11,6 +11,7 @@ ghost use Rattle.asn_meaning.specs.ValueTrees.{same_truth};
 ghost use Rattle.asn_replacements.specs.Choosing.{chosen, instances};
 ghost use Rattle.asn_shapes.specs.Members.{shown_members};
 ghost use Rattle.asn_tree.specs.declared.types.ChoiceOption.{out-ChoiceOption};
+ghost use Rattle.asn_tree.specs.declared.types.SequenceOrSet.{out-SequenceOrSet};
 ghost use Rattle.asn_tree.specs.declared.types.SequenceOrSetMember.{out-SequenceOrSetMember};
 ghost use Rattle.std.specs.Option.{option_map};
 ghost use Rattle.std.specs.Prelude.{◌≡◌, IfOk, ℕ, ◌+◌, None};
@@ -20,9 +21,11 @@ use asn_copy_trees::copy_text;
 use asn_heads::Place;
 use asn_index::Names;
 use asn_memory::{List, Mem};
-use asn_replacements::{marker_risen, part_named, placed_tag};
+use asn_replacements::{has_no_components_of, marker_risen, part_named, placed_tag};
 use asn_shapes::{Member, is_addition_at};
-use asn_tree::{ASN1Type, ChoiceOption, ConstrainedComponent, Constraint, SequenceOrSetMember};
+use asn_tree::{
+    ASN1Type, ChoiceOption, ConstrainedComponent, Constraint, SequenceOrSet, SequenceOrSetMember,
+};
 use std::alloc::Global;
 
 /// Whether the marker makes the member of this number what it was: an addition, or of the root.
@@ -38,10 +41,37 @@ pub fn is_divided(marker: Option<usize>, number: usize, member: &Member<'_>) -> 
 }
 
 /// The marker, risen by the members that are put in before it (X.680 25.5).
-pub fn risen(marker: Option<usize>, members: &[Member<'_>]) -> Option<usize>
-    ensures { result ≡ marker_behind marker (shown_members members.now) }
+pub fn risen(layer: &SequenceOrSet, members: &[Member<'_>]) -> Option<usize>
+    ensures { result ≡ marker_behind (out-SequenceOrSet layer.now) (shown_members members.now) }
 {
-    marker_risen(marker, members)
+    marker_risen(layer, members)
+}
+
+/// Copies of places of names after COMPONENTS OF.
+///
+/// Err: want of memory.
+fn copied_places(alloc: Global, places: &[(usize, bool)]) -> Mem<List<(usize, bool)>>
+    ensures { IfOk result (λ copies. copies ≡ places.now) }
+{
+    let mut copies = List::new(alloc);
+    for place in places {
+        copies.add(*place)?;
+    }
+    Ok(copies)
+}
+
+/// The places of names after COMPONENTS OF, of which none is left: those of a SEQUENCE or SET in which no such names stand.
+///
+/// Err: want of memory.
+pub fn places_left(alloc: Global, layer: &SequenceOrSet) -> Mem<List<(usize, bool)>>
+    ensures { IfOk result (λ places. places ≡ places_behind (out-SequenceOrSet layer.now)) }
+{
+    if has_no_components_of(layer) {
+        let places = copied_places(alloc, layer.components_at.as_slice())?;
+        Ok(places)
+    } else {
+        Ok(List::new(alloc))
+    }
 }
 
 /// The type of the part of a head that a listed component names.

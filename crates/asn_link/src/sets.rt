@@ -1,15 +1,17 @@
 //! The table constraint with the object set that the bindings give.
 
 ghost use Rattle.asn_heads.specs.Scopes.{shown};
-ghost use Rattle.asn_instance.specs.Tables.{members_bound, opened, table_bound};
+ghost use Rattle.asn_instance.specs.Tables.{members_bound, opened, table_bound, table_opened};
 ghost use Rattle.asn_link.specs.inner.Made.{table_made};
 ghost use Rattle.asn_replacements.specs.Sets.{shown_set_member};
 ghost use Rattle.std.specs.Prelude.{◌≡◌, IfOk, map};
 
-use asn_copy_trees::{copy_information_object_fields, copy_relational_constraint, copy_text};
+use asn_copy_trees::{
+    copy_information_object_fields, copy_object_set, copy_relational_constraint, copy_text,
+};
 use asn_heads::Scope;
 use asn_memory::{List, Mem};
-use asn_replacements::{SetMember, set_marker, set_members};
+use asn_replacements::{SetMember, is_outside, set_marker, set_members};
 use asn_tree::{Constraint, ObjectSet, ObjectSetValue, RelationalConstraint, TableConstraint};
 use std::alloc::Global;
 
@@ -77,15 +79,15 @@ fn copied_names(
     Ok(copies)
 }
 
-/// A table constraint with the set that the scope gives, as a list (X.682 10.3, X.683 8.4).
+/// A table constraint with the set that the bindings of the scope give, as a list.
 ///
 /// Err: want of memory.
-pub fn table_constraint<'a>(
+fn opened_table<'a>(
     alloc: Global,
     scope: &Scope<'a>,
     table: &'a TableConstraint,
 ) -> Mem<List<Constraint>>
-    ensures { IfOk result (λ made. made ≡ table_made (table_bound (shown scope.now) table.now)) }
+    ensures { IfOk result (λ made. made ≡ table_made (table_opened (shown scope.now) table.now)) }
 {
     let extensible = set_marker(alloc, scope, &table.object_set)?;
     let linked_fields = copied_names(alloc, &table.linked_fields)?;
@@ -98,4 +100,42 @@ pub fn table_constraint<'a>(
         }),
     )?;
     Ok(made)
+}
+
+/// A table constraint as it stands, as a list.
+///
+/// Err: want of memory.
+fn copied_table(alloc: Global, table: &TableConstraint) -> Mem<List<Constraint>>
+    ensures { IfOk result (λ made. made ≡ table_made table.now) }
+{
+    let object_set = copy_object_set(alloc, &table.object_set)?;
+    let linked_fields = copied_names(alloc, &table.linked_fields)?;
+    let made = List::of(
+        alloc,
+        Constraint::TableConstraint(TableConstraint {
+            object_set,
+            linked_fields,
+        }),
+    )?;
+    Ok(made)
+}
+
+/// A table constraint with the set that the scope gives, as a list (X.682 10.3, X.683 8.4). It stays in a scope without dummies.
+///
+/// Err: want of memory.
+#[tactic(auto, using(crate::proofs::Contents::table_outside, crate::proofs::Contents::table_inside))]
+pub fn table_constraint<'a>(
+    alloc: Global,
+    scope: &Scope<'a>,
+    table: &'a TableConstraint,
+) -> Mem<List<Constraint>>
+    ensures { IfOk result (λ made. made ≡ table_made (table_bound (shown scope.now) table.now)) }
+{
+    if is_outside(scope) {
+        let made = copied_table(alloc, table)?;
+        Ok(made)
+    } else {
+        let made = opened_table(alloc, scope, table)?;
+        Ok(made)
+    }
 }

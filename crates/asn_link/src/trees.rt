@@ -1,6 +1,7 @@
 //! Trees put together from parts, where all of these are made.
 
 ghost use Rattle.asn_link.specs.inner.Made.{alphabet_made, choice_made, component_made, contained_made, element_set_made, inner_made, joined_made, list_made, listed_made, operation_set_made, sequence_made, sequence_of_made, set_made, set_of_made, size_made, struct_made, subtype_made, type_constraint_made};
+ghost use Rattle.asn_link.specs.inner.Parts.{places_behind};
 ghost use Rattle.asn_tree.specs.declared.constraints.ElementOrSetOperation.{out-ElementOrSetOperation};
 ghost use Rattle.asn_tree.specs.declared.constraints.SetOperation.{out-SetOperation};
 ghost use Rattle.asn_tree.specs.declared.constraints.SubtypeElement.{out-SubtypeElement};
@@ -10,6 +11,7 @@ ghost use Rattle.asn_tree.specs.declared.types.SequenceOrSetOf.{out-SequenceOrSe
 ghost use Rattle.std.specs.Option.{option_map};
 ghost use Rattle.std.specs.Prelude.{◌≡◌, IfOk};
 
+use crate::parts::places_left;
 use asn_copy_trees::copy_text;
 use asn_memory::{Box, List, Mem};
 use asn_tree::{
@@ -77,24 +79,30 @@ pub fn choice(
     }
 }
 
-/// A SEQUENCE or SET of these members, with this marker.
+/// A SEQUENCE or SET of these members with this marker, and with the places of names after COMPONENTS OF that are left.
+///
+/// Err: want of memory.
 pub fn structure(
     alloc: Global,
+    layer: &SequenceOrSet,
     extensible: Option<usize>,
     members: List<SequenceOrSetMember>,
     constraints: Option<List<Constraint>>,
-) -> Option<SequenceOrSet>
-    ensures { option_map out-SequenceOrSet result ≡ struct_made extensible members constraints }
+) -> Mem<Option<SequenceOrSet>>
+    ensures { IfOk result (λ made. option_map out-SequenceOrSet made ≡ struct_made (places_behind (out-SequenceOrSet layer.now)) extensible members constraints) }
 {
     match constraints {
-        None => None,
-        Some(constraints) => Some(SequenceOrSet {
-            components_of: List::new(alloc),
-            components_at: List::new(alloc),
-            extensible,
-            constraints,
-            members,
-        }),
+        None => Ok(None),
+        Some(constraints) => {
+            let components_at = places_left(alloc, layer)?;
+            Ok(Some(SequenceOrSet {
+                components_of: List::new(alloc),
+                components_at,
+                extensible,
+                constraints,
+                members,
+            }))
+        }
     }
 }
 

@@ -15,7 +15,7 @@ mod tags;
 mod values;
 
 pub use names::stays;
-pub use parts::{marker_risen, part_named};
+pub use parts::{has_no_components_of, marker_risen, part_named};
 pub use subjects::{Subject, ends_read, values_read};
 pub use tables::{SetMember, set_marker, set_members};
 pub use tags::{placed_tag, tag_brought};

@@ -2,7 +2,7 @@
 
 ghost use Rattle.asn_heads.specs.Places.{shown_place};
 ghost use Rattle.asn_heads.specs.Scopes.{shown};
-ghost use Rattle.asn_instance.specs.Instance.{part_named, risen};
+ghost use Rattle.asn_instance.specs.Instance.{is_empty, part_named, risen};
 ghost use Rattle.asn_meaning.specs.Answers.{once};
 ghost use Rattle.asn_meaning.specs.Definitions.{Definitions};
 ghost use Rattle.asn_meaning.specs.Judge.{meaning};
@@ -16,7 +16,7 @@ ghost use Rattle.std.specs.Prelude.{◌≡◌, ◌+◌, ◌≤◌, ◌<◌, ◌^
 
 use asn_heads::{Kind, Place, Scope, kind_of};
 use asn_index::Names;
-use asn_memory::Mem;
+use asn_memory::{Mem, Text};
 use asn_shapes::{Member, member_type, option_type, struct_members};
 use asn_tree::SequenceOrSet;
 use std::alloc::Global;
@@ -103,12 +103,40 @@ fn root_count(members: &[Member<'_>]) -> usize
     count
 }
 
-/// The marker of a SEQUENCE or SET, risen by the members that are put in before it (X.680 25.5).
-pub fn marker_risen(marker: Option<usize>, members: &[Member<'_>]) -> Option<usize>
-    ensures { (defs : Definitions) (n k : ℕ) → result ≡ risen chosen defs (meaning defs n) (instances defs n k) marker (shown_members members.now) }
+/// Whether there are no names.
+fn has_no_name(names: &[Text]) -> bool
+    ensures { result ≡ is_empty names.now }
+{
+    match names {
+        [] => true,
+        [_, ..] => false,
+    }
+}
+
+/// Whether no COMPONENTS OF stands in a SEQUENCE or SET.
+pub fn has_no_components_of(layer: &SequenceOrSet) -> bool
+    ensures { result ≡ is_empty (out-SequenceOrSet layer.now).components_of }
+{
+    has_no_name(layer.components_of.as_slice())
+}
+
+/// The marker behind the members of the root, where there is one.
+fn marker_behind(marker: Option<usize>, members: &[Member<'_>]) -> Option<usize>
+    ensures { result ≡ once None marker (λ number. Some (length (root_members (shown_members members.now)))) }
 {
     match marker {
         None => None,
         Some(_) => Some(root_count(members)),
+    }
+}
+
+/// The marker of a SEQUENCE or SET, risen by the members that are put in before it (X.680 25.5); without COMPONENTS OF it stays.
+pub fn marker_risen(layer: &SequenceOrSet, members: &[Member<'_>]) -> Option<usize>
+    ensures { (defs : Definitions) (n k : ℕ) → result ≡ risen chosen defs (meaning defs n) (instances defs n k) (out-SequenceOrSet layer.now) (shown_members members.now) }
+{
+    if has_no_components_of(layer) {
+        layer.extensible
+    } else {
+        marker_behind(layer.extensible, members)
     }
 }

@@ -52,8 +52,8 @@ abbrev pub reference_made : ReferenceLayer → Option (List Constraint) → Opti
 reference_made x cs = once None cs (λ cs. Some (reference_with x cs))
 
 -- a SEQUENCE or SET of these members
-abbrev pub struct_made : Option ℕ → List SequenceOrSetMember → Option (List Constraint) → Option StructLayer
-struct_made marker ws cs = once None cs (λ cs. Some (record { components_of = []; components_at = []; extensible = marker; constraints = cs; members = ws }))
+abbrev pub struct_made : List (ℕ × Bool) → Option ℕ → List SequenceOrSetMember → Option (List Constraint) → Option StructLayer
+struct_made places marker ws cs = once None cs (λ cs. Some (record { components_of = []; components_at = places; extensible = marker; constraints = cs; members = ws }))
 
 abbrev pub list_made : ListLayer → ASN1Type → Option (List Constraint) → Option ListLayer
 list_made x e cs = once None cs (λ cs. Some (record x { element_type = e; constraints = cs }))

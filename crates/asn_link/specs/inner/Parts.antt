@@ -1,12 +1,12 @@
 -- What is made of the parts of a type, by what is found within `k` levels and by what `n` steps tell.
-use Rattle.std.specs.Prelude.{ℕ, List, Option, Some, None, length, if◌then◌else◌}
+use Rattle.std.specs.Prelude.{ℕ, Bool, List, [], Option, Some, None, length, if◌then◌else◌}
 use Rattle.asn_headers.specs.declared.headers.AsnTag.{AsnTag}
 use Rattle.asn_tree.specs.declared.constraints.Constraint.{Constraint, out-Constraint}
 use Rattle.asn_tree.specs.declared.constraints.SubtypeElement.{SubtypeElement}
 use Rattle.asn_tree.specs.declared.types.ASN1Type.{ASN1Type}
 use Rattle.asn_tree.specs.declared.types.ChoiceOption.{ChoiceOption, out-ChoiceOption, roll-ChoiceOption}
 use Rattle.asn_tree.specs.declared.values.ASN1Value.{ASN1Value}
-use Rattle.asn_instance.specs.Instance.{constraint_instance, listed_instance, member_instance, of_constraints, of_members, option_instance, placed_tag}
+use Rattle.asn_instance.specs.Instance.{constraint_instance, is_empty, listed_instance, member_instance, of_constraints, of_members, option_instance, placed_tag}
 use Rattle.asn_instance.specs.Literals.{default_written, value_written}
 use Rattle.asn_instance.specs.Subjects.{OnValues, Subject, ends_read, perhaps}
 use Rattle.asn_link.specs.inner.Made.{followed_made, joined_made, struct_made}
@@ -61,14 +61,18 @@ abbrev pub member_at : Definitions → ℕ → ℕ → Option ℕ → ℕ → Me
 member_at defs n k marker number m =
     if same_truth m.is_addition (is_addition_at marker number) then member_instance chosen defs (meaning defs n) (instances defs n k) m.scope m.written else None
 
--- the marker behind the members of the root
-abbrev pub marker_behind : Option ℕ → List Member → Option ℕ
-marker_behind marker ms = once None marker (λ number. Some (length (root_members ms)))
+-- the marker behind the members of the root; without COMPONENTS OF as it stands
+abbrev pub marker_behind : StructLayer → List Member → Option ℕ
+marker_behind x ms = if is_empty x.components_of then x.extensible else once None x.extensible (λ number. Some (length (root_members ms)))
+
+-- the places of names after COMPONENTS OF, where there are no such names
+abbrev pub places_behind : StructLayer → List (ℕ × Bool)
+places_behind x = if is_empty x.components_of then x.components_at else []
 
 abbrev pub struct_with : Definitions → ℕ → ℕ → Place → StructLayer → List Member → Option StructLayer
 struct_with defs n k p x ms =
-    once None (of_members chosen defs (meaning defs n) (instances defs n k) (marker_behind x.extensible ms) 0 ms)
-    (λ ws. struct_made (marker_behind x.extensible ms) ws (constraints_made defs n k p.scope p x.constraints))
+    once None (of_members chosen defs (meaning defs n) (instances defs n k) (marker_behind x ms) 0 ms)
+    (λ ws. struct_made (places_behind x) (marker_behind x ms) ws (constraints_made defs n k p.scope p x.constraints))
 
 -- an option whose type is at the place
 abbrev pub option_finished : Definitions → ℕ → ℕ → Place → OptionLayer → ASN1Type → List Constraint → Option OptionLayer

@@ -65,14 +65,15 @@ fn struct_with<'a>(
 ) -> Mem<Option<SequenceOrSet>>
     ensures { IfOk result (λ made. (m : ℕ) → option_map out-SequenceOrSet made ≡ struct_with names.now.definitions.now (steps + m) levels (shown_place place.now) (out-SequenceOrSet layer.now) (shown_members members.now)) }
 {
-    let marker = risen(layer.extensible, members);
+    let marker = risen(layer, members);
     let Some(made) = of_members(alloc, names, steps, levels, room, marker, members)? else {
         return Ok(None);
     };
     let scope = &place.scope;
     let own = layer.constraints.as_slice();
     let constraints = of_constraints(alloc, names, steps, levels, room, scope, place, own)?;
-    Ok(structure(alloc, marker, made, constraints))
+    let made = structure(alloc, layer, marker, made, constraints)?;
+    Ok(made)
 }
 
 /// What stands for the members, where the marker divides them as they were.
