@@ -1,39 +1,109 @@
 -- The types that linking makes are instances, and what is told of them.
-use Rattle.std.proofs.Common.{◌≡◌, ℕ, suc, List, [], ◌∷◌, length, map, Bool, true, false, Option, Some, None, refl, sym, ap, subst, arith}
+use Rattle.std.proofs.Common.{◌≡◌, ℕ, zero, suc, ◌+◌, ◌-◌, ◌≤◌, List, [], ◌∷◌, length, map, Bool, true, false, ◌&&◌, Option, Some, None, refl, sym, ap, ◌∙◌, subst, arith}
+use Rattle.std.specs.Prelude.{is_none, if◌then◌else◌}
 use Rattle.std.proofs.lemmas.Simd.{map-map}
 use Rattle.std.specs.List.{AllZip}
+use Rattle.asn_headers.specs.declared.headers.AsnTag.{AsnTag}
 use Rattle.asn_tree.specs.declared.definitions.Parameterization.{Parameterization}
 use Rattle.asn_tree.specs.declared.definitions.ToplevelDefinition.{ToplevelDefinition}
 use Rattle.asn_tree.specs.declared.definitions.ToplevelDefinition.TheVariants.{TypeDef, Value, Information}
 use Rattle.asn_tree.specs.declared.definitions.ToplevelTypeDefinition.{ToplevelTypeDefinition}
 use Rattle.asn_tree.specs.declared.types.ASN1Type.{ASN1Type}
+use Rattle.asn_meaning.specs.Answers.{Within, once}
+use Rattle.asn_meaning.specs.Scopes.{Empty}
+use Rattle.asn_unchanged.specs.Unchanged.{is_left, is_unchanged, linking}
 use Rattle.asn_circles.specs.Circles.{FreeAre}
 use Rattle.asn_index.specs.Definitions.{Definitions, name_of}
+use Rattle.asn_instance.specs.Closed.{every_name}
+use Rattle.asn_instance.specs.Laws.{LiteralsSteady, MoreLevels}
+use Rattle.asn_instance.specs.Literals.{literals}
+use Rattle.asn_own_instances.specs.Laws.{Eventually, UnchangedAreOwnInstances}
 use Rattle.asn_closed.specs.Closed.{AreClosed}
 use Rattle.asn_closed.specs.Laws.{IsMade}
 use Rattle.asn_instances.specs.Laws.{MadeAreInstances}
 use Rattle.asn_instances.specs.Linked.{AreLinkedTypes}
-use Rattle.asn_instances.specs.Made.{instance_of, made_each, made_where, unless_template}
+use Rattle.asn_instances.specs.Made.{instance_of, made_each, made_of, made_where, own_type, tag_each, tag_of, unless_template}
 
-module _ (defs : Definitions) (n k : ℕ) where
-  type_made : (d : ToplevelTypeDefinition) (p : Option Parameterization) (o : Option ASN1Type) → d.parameterization ≡ p → instance_of defs n k d ≡ o → IsMade defs n k (TypeDef d) (unless_template p o)
-  type_made d None None e f = tt
-  type_made d None (Some ty) e f = (e, f)
-  type_made d (Some p) o e f = tt
+-- what is told of a number that is at least another goes by their difference
+restored : (k j : ℕ) → k ≤ j → (j - k) + k ≡ j
+restored k j le = omega (arith, le)
 
-  one_made : (d : ToplevelDefinition) (is_free : Bool) → IsMade defs n k d (made_where defs n k d is_free)
-  one_made (TypeDef d) true = type_made d d.parameterization (instance_of defs n k d) refl refl
-  one_made (TypeDef d) false = tt
-  one_made (Value d) is_free = tt
-  one_made (Information d) is_free = tt
+no_template : (d : ToplevelTypeDefinition) → is_unchanged (TypeDef d) ≡ true → d.parameterization ≡ None
+unfolding is_unchanged
+no_template d e = go d.parameterization refl e
+  where
+    go : (p : Option Parameterization) → d.parameterization ≡ p → (is_none p && is_left (linking d.ty)) ≡ true → d.parameterization ≡ None
+    go None f e = f
+    go (Some p) f e = absurd cc
 
-  each_made : (ds : Definitions) (free : List Bool) → length free ≡ length ds → AllZip (IsMade defs n k) ds (made_each defs n k ds free)
-  each_made [] free e = tt
+abbrev Made : Definitions → ℕ → ℕ → ToplevelDefinition → Option ASN1Type → Type 0
+Made defs n k d made = IsMade defs (suc n) k d made
+
+module _ (own : UnchangedAreOwnInstances) (steady : LiteralsSteady) (more : MoreLevels) (defs : Definitions) (n k : ℕ) where
+  abbrev of_type : ℕ → ToplevelTypeDefinition → Option ASN1Type
+  of_type j d = instance_of defs (suc n) j d
+
+  again : {A : Type 0} (a b : Option A) (x : A) → Within a b → a ≡ Some x → b ≡ Some x
+  again None b x w e = absurd cc
+  again (Some y) b x w e = w ∙ e
+
+  -- an instance is the same within more levels
+  further : (d : ToplevelTypeDefinition) (ty : ASN1Type) → of_type k d ≡ Some ty → (i : ℕ) → of_type (i + k) d ≡ Some ty
+  further d ty e zero = subst (λ j. of_type j d ≡ Some ty) (omega arith) e
+  further d ty e (suc i) =
+      let more_there = (more (literals every_name) defs (steady every_name defs) (suc n) (i + k)).0.of_type false Empty d.ty in
+      let there : of_type (suc (i + k)) d ≡ Some ty = again (of_type (i + k) d) (of_type (suc (i + k)) d) ty more_there (further d ty e i) in
+      let next : suc (i + k) ≡ suc i + k = omega arith in
+      subst (λ j. of_type j d ≡ Some ty) next there
+
+  stays : (d : ToplevelTypeDefinition) (ty : ASN1Type) → of_type k d ≡ Some ty → Eventually (λ j. of_type j d ≡ Some ty)
+  stays d ty e = record { levels = k; holds = at }
+    where
+      at : (j : ℕ) → k ≤ j → of_type j d ≡ Some ty
+      at j le = subst (λ i. of_type i d ≡ Some ty) (restored k j le) (further d ty e (j - k))
+
+  always : {P : ℕ → Type 0} → ((j : ℕ) → P j) → Eventually P
+  always f = record { levels = 0; holds = λ j le. f j }
+
+  -- ---- one definition
+
+  type_made : (d : ToplevelTypeDefinition) (p : Option Parameterization) → d.parameterization ≡ p → (t : Option (Option AsnTag)) (o : Option ASN1Type) → of_type k d ≡ o →
+      Eventually (λ j. Made defs n j (TypeDef d) (unless_template p (once None t (λ tag. o))))
+  type_made d (Some p) e t o f = always (λ j. tt)
+  type_made d None e None o f = always (λ j. tt)
+  type_made d None e (Some tag) None f = always (λ j. tt)
+  type_made d None e (Some tag) (Some ty) f = let s = stays d ty f in record { levels = s.levels; holds = λ j le. (e, s.holds j le) }
+
+  free_made : (d : ToplevelDefinition) (is_free : Bool) → Eventually (λ j. Made defs n j d (if is_free then made_of defs (suc n) k d else None))
+  free_made (TypeDef d) true = type_made d d.parameterization refl (tag_of defs (suc n) k d) (of_type k d) refl
+  free_made (TypeDef d) false = always (λ j. tt)
+  free_made (Value d) is_free = always (λ j. tt)
+  free_made (Information d) is_free = always (λ j. tt)
+
+  own_made : (d : ToplevelDefinition) → is_unchanged d ≡ true → Eventually (λ j. Made defs n j d (own_type d))
+  own_made (TypeDef d) e = let s = own defs d e in record { levels = s.levels; holds = λ j le. (no_template d e, s.holds j le n) }
+  own_made (Value d) e = always (λ j. tt)
+  own_made (Information d) e = always (λ j. tt)
+
+  one_made : (d : ToplevelDefinition) (is_free : Bool) → Eventually (λ j. Made defs n j d (made_where defs (suc n) k d is_free))
+  one_made d is_free = go (is_unchanged d) refl
+    where
+      go : (b : Bool) → is_unchanged d ≡ b → Eventually (λ j. Made defs n j d (if b then own_type d else if is_free then made_of defs (suc n) k d else None))
+      go true e = own_made d e
+      go false e = free_made d is_free
+
+  -- ---- all of them
+
+  each_made : (ds : Definitions) (free : List Bool) → length free ≡ length ds → Eventually (λ j. AllZip (Made defs n j) ds (made_each defs (suc n) k ds free))
+  each_made [] free e = always (λ j. tt)
   each_made (d ∷ ds) [] e = absurd cc
-  each_made (d ∷ ds) (b ∷ free) e = (one_made d b, each_made ds free (omega (arith, e)))
+  each_made (d ∷ ds) (b ∷ free) e =
+      let here = one_made d b in
+      let behind = each_made ds free (omega (arith, e)) in
+      record { levels = here.levels + behind.levels; holds = λ j le. (here.holds j (omega (arith, le)), behind.holds j (omega (arith, le))) }
 
-pub made_are_instances : MadeAreInstances
-made_are_instances defs ds free n k e = each_made defs n k ds free e
+pub made_are_instances : UnchangedAreOwnInstances → LiteralsSteady → MoreLevels → MadeAreInstances
+made_are_instances own steady more defs ds free n k e = each_made own steady more defs n k ds free e
 
 -- ---- lengths
 
@@ -50,7 +120,7 @@ made_long defs n k [] free e = refl
 made_long defs n k (d ∷ ds) [] e = absurd cc
 made_long defs n k (d ∷ ds) (b ∷ free) e = ap suc (made_long defs n k ds free (omega (arith, e)))
 
-pub linked_so : {X : Type 0} (f : X → ToplevelDefinition) (defs : Definitions) (n k : ℕ) (xs : List X) (free closed : List Bool) (made : List (Option ASN1Type)) → FreeAre defs (map (λ x. name_of (f x)) xs) free →
-    made ≡ made_each defs n k (map f xs) free → AreClosed (map f xs) made closed → AreLinkedTypes defs n k (map f xs) made closed
-linked_so f defs n k xs free closed made are is told =
-    record { free = free; are_free = subst (λ names. FreeAre defs names free) (sym (map-map name_of f xs)) are; made_so = is; closed_so = told }
+pub linked_so : {X : Type 0} (f : X → ToplevelDefinition) (defs : Definitions) (n k : ℕ) (xs : List X) (free closed : List Bool) (made : List (Option ASN1Type)) (tags : List (Option AsnTag)) → FreeAre defs (map (λ x. name_of (f x)) xs) free →
+    made ≡ made_each defs n k (map f xs) free → tags ≡ tag_each defs n k (map f xs) free → AreClosed (map f xs) made closed → AreLinkedTypes defs n k (map f xs) made tags closed
+linked_so f defs n k xs free closed made tags are is tagged told =
+    record { free = free; are_free = subst (λ names. FreeAre defs names free) (sym (map-map name_of f xs)) are; made_so = is; tagged_so = tagged; closed_so = told }

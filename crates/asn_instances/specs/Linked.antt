@@ -1,16 +1,19 @@
 -- What linking makes of the definitions that stand, and which of them are closed.
 use Rattle.std.specs.Prelude.{◌≡◌, ℕ, List, Bool, Option, map}
+use Rattle.asn_headers.specs.declared.headers.AsnTag.{AsnTag}
 use Rattle.asn_tree.specs.declared.types.ASN1Type.{ASN1Type}
 use Rattle.asn_circles.specs.Circles.{FreeAre}
 use Rattle.asn_closed.specs.Closed.{AreClosed}
 use Rattle.asn_index.specs.Definitions.{Definitions, name_of}
-use Rattle.asn_instances.specs.Made.{made_each}
+use Rattle.asn_instances.specs.Made.{made_each, tag_each}
 
-pub record AreLinkedTypes (defs : Definitions) (n k : ℕ) (ds : Definitions) (made : List (Option ASN1Type)) (closed : List Bool) : Type 0 where
+pub record AreLinkedTypes (defs : Definitions) (n k : ℕ) (ds : Definitions) (made : List (Option ASN1Type)) (tags : List (Option AsnTag)) (closed : List Bool) : Type 0 where
   -- which of them lead to no circle
   pub free : List Bool
   pub are_free : FreeAre defs (map name_of ds) free
   -- what was made of each
   pub made_so : made ≡ made_each defs n k ds free
+  -- the tag that stands before that
+  pub tagged_so : tags ≡ tag_each defs n k ds free
   -- whether it is closed by that
   pub closed_so : AreClosed ds made closed

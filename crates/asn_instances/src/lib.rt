@@ -1,4 +1,5 @@
-//! The instances of all definitions: what linking makes of each type definition without parameters that leads to no circle.
+//! The instances of all definitions: what linking makes of each type definition without parameters that it leaves as it is or that leads
+//! to no circle.
 //!
 //! A room above the instance of one type (asn_link). Which of them can be linked together asn_closed tells.
 #![tactic(auto)]
@@ -6,6 +7,7 @@
 mod laws;
 mod linked;
 mod making;
+mod tags;
 
 pub use laws::made_are_instances;
 pub use linked::{LinkedTypes, link_types};

@@ -5,11 +5,12 @@ ghost use Rattle.asn_instances.specs.Linked.{AreLinkedTypes};
 ghost use Rattle.std.specs.Prelude.{◌+◌, ℕ, IfOk, map};
 
 use crate::making::{Limits, make_types};
+use crate::tags::tag_types;
 use asn_circles::free_of_circles;
 use asn_closed::closed_definitions;
 use asn_index::Names;
 use asn_memory::{List, Mem};
-use asn_tree::{ASN1Type, ToplevelDefinition};
+use asn_tree::{ASN1Type, AsnTag, ToplevelDefinition};
 use std::alloc::Global;
 
 /// What linking makes of definitions, each in its turn.
@@ -17,13 +18,16 @@ use std::alloc::Global;
 pub struct LinkedTypes {
     /// The type that was made, where one was.
     pub made: List<Option<ASN1Type>>,
-    /// Whether the definition is closed: it and all that its type leads to can be linked together.
+    /// The tag that stands before it.
+    pub tags: List<Option<AsnTag>>,
+    /// Whether the definition is closed: a type was made of it and of each definition of a type that its type leads to, and no field of
+    /// an object stays in any of these.
     pub closed: List<bool>,
 }
 
-/// What linking makes of each of the definitions that stand, in their order, and whether it is closed: the instance of the type of one
-/// that is no template and leads to no circle, where an instance lies within the levels. `standing` is what `Names::standing` gives of
-/// `names`. Where linking gives closed definitions these types, each name of one stands for a type that accepts and rejects the same
+/// What linking makes of each of the definitions that stand, in their order, with its tag, and whether it is closed: the type of one that
+/// linking leaves as it is, else the instance of the type of one that is no template and leads to no circle, where an instance lies within
+/// the levels. `standing` is what `Names::standing` gives of `names`. Where linking gives closed definitions these types, each name of one stands for a type that accepts and rejects the same
 /// trees as it did (`asn_closed::closed_definitions_close`, `asn_instance::closed_names_mean_the_same`).
 ///
 /// # Errors
@@ -36,10 +40,12 @@ pub fn link_types<'a>(
     standing: &[&'a ToplevelDefinition],
 ) -> Mem<LinkedTypes>
     requires { IsStanding names.now.definitions.now (map (λ d. d.now) standing.now) }
-    ensures { IfOk result (λ linked. (m : ℕ) → AreLinkedTypes names.now.definitions.now (limits.steps + m) limits.levels (map (λ d. d.now) standing.now) linked.made linked.closed) }
+    ensures { IfOk result (λ linked. (m : ℕ) → AreLinkedTypes names.now.definitions.now (limits.steps + m) limits.levels (map (λ d. d.now) standing.now) linked.made linked.tags linked.closed) }
 {
     let free = free_of_circles(alloc, names, standing)?;
-    let made = make_types(alloc, names, limits, standing, free.as_slice())?;
+    let told = free.as_slice();
+    let made = make_types(alloc, names, limits, standing, told)?;
+    let tags = tag_types(alloc, names, limits, standing, told)?;
     let closed = closed_definitions(alloc, names, standing, made.as_slice())?;
-    Ok(LinkedTypes { made, closed })
+    Ok(LinkedTypes { made, tags, closed })
 }

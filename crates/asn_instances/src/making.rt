@@ -1,13 +1,16 @@
 //! The types that linking makes, definition by definition.
 
-ghost use Rattle.asn_instances.specs.Made.{instance_of, made_each, made_of, made_where};
+ghost use Rattle.asn_instances.specs.Made.{instance_of, made_each, made_of, made_where, own_type, tag_of, tagged_instance};
 ghost use Rattle.std.specs.Prelude.{◌≡◌, ◌+◌, ℕ, IfOk, length, map};
 
+use crate::tags::tag_of;
+use asn_copy_trees::copy_asn1_type;
 use asn_heads::{Place, Scope, TypeForm};
 use asn_index::Names;
 use asn_link::{Room, instance_of_type};
 use asn_memory::{List, Mem};
 use asn_tree::{ASN1Type, ToplevelDefinition, ToplevelTypeDefinition};
+use asn_unchanged::is_unchanged;
 use std::alloc::Global;
 
 /// How far an instance is looked for.
@@ -49,6 +52,26 @@ fn instance_of<'a>(
     Ok(made)
 }
 
+/// The instance of a definition's type, where its tag is told too.
+///
+/// None and Err: as `instance_of`.
+fn tagged_instance<'a>(
+    alloc: Global,
+    names: &Names<'a>,
+    limits: Limits,
+    definition: &'a ToplevelTypeDefinition,
+) -> Mem<Option<ASN1Type>>
+    ensures { IfOk result (λ made. (m : ℕ) → made ≡ tagged_instance names.now.definitions.now (limits.steps + m) limits.levels definition.now) }
+{
+    match tag_of(alloc, names, limits, definition)? {
+        None => Ok(None),
+        Some(_) => {
+            let made = instance_of(alloc, names, limits, definition)?;
+            Ok(made)
+        }
+    }
+}
+
 /// What linking makes of a definition that leads to no circle: the instance of a type without parameters.
 ///
 /// Err: want of memory, also where the steps or the room are used up.
@@ -63,7 +86,7 @@ fn made_of<'a>(
     match definition {
         ToplevelDefinition::TypeDef(definition) => match &definition.parameterization {
             None => {
-                let made = instance_of(alloc, names, limits, definition)?;
+                let made = tagged_instance(alloc, names, limits, definition)?;
                 Ok(made)
             }
             Some(_) => Ok(None),
@@ -73,7 +96,23 @@ fn made_of<'a>(
     }
 }
 
-/// What linking makes of a definition, where it leads to no circle.
+/// A copy of a definition's type, where it is one of a type.
+///
+/// Err: want of memory.
+fn own_type(alloc: Global, definition: &ToplevelDefinition) -> Mem<Option<ASN1Type>>
+    ensures { IfOk result (λ made. made ≡ own_type definition.now) }
+{
+    match definition {
+        ToplevelDefinition::TypeDef(definition) => {
+            let copy = copy_asn1_type(alloc, &definition.ty)?;
+            Ok(Some(copy))
+        }
+        ToplevelDefinition::Value(_) => Ok(None),
+        ToplevelDefinition::Information(_) => Ok(None),
+    }
+}
+
+/// What linking makes of a definition: its own type where linking leaves it as it is, else its instance where it leads to no circle.
 ///
 /// Err: want of memory, also where the steps or the room are used up.
 fn made_where<'a>(
@@ -85,7 +124,10 @@ fn made_where<'a>(
 ) -> Mem<Option<ASN1Type>>
     ensures { IfOk result (λ made. (m : ℕ) → made ≡ made_where names.now.definitions.now (limits.steps + m) limits.levels definition.now is_free) }
 {
-    if is_free {
+    if is_unchanged(definition) {
+        let made = own_type(alloc, definition)?;
+        Ok(made)
+    } else if is_free {
         let made = made_of(alloc, names, limits, definition)?;
         Ok(made)
     } else {
@@ -93,8 +135,9 @@ fn made_where<'a>(
     }
 }
 
-/// What linking makes of each of these definitions, in their order: the instance of the type of one without parameters, where `free` says
-/// of it that it leads to no circle and an instance lies within the levels; else nothing.
+/// What linking makes of each of these definitions, in their order: of one that it leaves as it is its own type; of any other of a type
+/// without parameters, where `free` says of it that it leads to no circle, the instance of its type, where one lies within the levels; else
+/// nothing.
 ///
 /// # Errors
 ///

@@ -1,0 +1,132 @@
+//! The tags of the types that linking makes (X.680 31).
+
+ghost use Rattle.asn_instances.specs.Made.{new_tag, own_tag, tag_each, tag_of, tag_where};
+ghost use Rattle.asn_meaning.specs.Answers.{once};
+ghost use Rattle.std.specs.Prelude.{◌≡◌, ◌+◌, ℕ, IfOk, length, map};
+
+use crate::making::Limits;
+use asn_heads::{Place, Scope, TypeForm};
+use asn_index::Names;
+use asn_memory::{List, Mem};
+use asn_replacements::placed_tag;
+use asn_tree::{AsnTag, ToplevelDefinition, ToplevelTypeDefinition};
+use asn_unchanged::is_unchanged;
+use std::alloc::Global;
+
+/// The tag of a definition's type: the written one, else the one that the type brings to its place.
+///
+/// None: the levels do not reach, or a name leads nowhere. Err: want of memory, also where the steps are used up.
+pub(crate) fn tag_of<'a>(
+    alloc: Global,
+    names: &Names<'a>,
+    limits: Limits,
+    definition: &'a ToplevelTypeDefinition,
+) -> Mem<Option<Option<AsnTag>>>
+    ensures { IfOk result (λ tag. (m : ℕ) → tag ≡ tag_of names.now.definitions.now (limits.steps + m) limits.levels definition.now) }
+{
+    let place = Place {
+        scope: Scope::Empty,
+        ty: TypeForm::Written(&definition.ty),
+    };
+    let tag = placed_tag(
+        alloc,
+        names,
+        limits.steps,
+        limits.levels,
+        definition.tag,
+        &place,
+    )?;
+    Ok(tag)
+}
+
+/// The tag of a definition of a type that leads to no circle; where none is told its own.
+///
+/// Err: want of memory, also where the steps are used up.
+fn tag_or_own<'a>(
+    alloc: Global,
+    names: &Names<'a>,
+    limits: Limits,
+    definition: &'a ToplevelTypeDefinition,
+) -> Mem<Option<AsnTag>>
+    ensures { IfOk result (λ tag. (m : ℕ) → tag ≡ once definition.now.tag (tag_of names.now.definitions.now (limits.steps + m) limits.levels definition.now) (λ tag. tag)) }
+{
+    match tag_of(alloc, names, limits, definition)? {
+        None => Ok(definition.tag),
+        Some(tag) => Ok(tag),
+    }
+}
+
+/// The tag of a definition that leads to no circle.
+///
+/// Err: want of memory, also where the steps are used up.
+fn new_tag<'a>(
+    alloc: Global,
+    names: &Names<'a>,
+    limits: Limits,
+    definition: &'a ToplevelDefinition,
+) -> Mem<Option<AsnTag>>
+    ensures { IfOk result (λ tag. (m : ℕ) → tag ≡ new_tag names.now.definitions.now (limits.steps + m) limits.levels definition.now) }
+{
+    match definition {
+        ToplevelDefinition::TypeDef(definition) => {
+            let tag = tag_or_own(alloc, names, limits, definition)?;
+            Ok(tag)
+        }
+        ToplevelDefinition::Value(_) => Ok(None),
+        ToplevelDefinition::Information(_) => Ok(None),
+    }
+}
+
+/// The tag that a definition is written with.
+fn own_tag(definition: &ToplevelDefinition) -> Option<AsnTag>
+    ensures { result ≡ own_tag definition.now }
+{
+    match definition {
+        ToplevelDefinition::TypeDef(definition) => definition.tag,
+        ToplevelDefinition::Value(_) => None,
+        ToplevelDefinition::Information(_) => None,
+    }
+}
+
+/// The tag of a definition: its own where linking leaves it as it is or it leads to a circle.
+///
+/// Err: want of memory, also where the steps are used up.
+fn tag_where<'a>(
+    alloc: Global,
+    names: &Names<'a>,
+    limits: Limits,
+    definition: &'a ToplevelDefinition,
+    is_free: bool,
+) -> Mem<Option<AsnTag>>
+    ensures { IfOk result (λ tag. (m : ℕ) → tag ≡ tag_where names.now.definitions.now (limits.steps + m) limits.levels definition.now is_free) }
+{
+    if is_unchanged(definition) {
+        Ok(own_tag(definition))
+    } else if is_free {
+        let tag = new_tag(alloc, names, limits, definition)?;
+        Ok(tag)
+    } else {
+        Ok(own_tag(definition))
+    }
+}
+
+/// The tag of each of these definitions, in their order, as linking gives it: the written one, else, where `free` says that a definition
+/// leads to no circle, the one that its type brings to its place.
+///
+/// Err: want of memory, also where the steps are used up.
+pub(crate) fn tag_types<'a>(
+    alloc: Global,
+    names: &Names<'a>,
+    limits: Limits,
+    definitions: &[&'a ToplevelDefinition],
+    free: &[bool],
+) -> Mem<List<Option<AsnTag>>>
+    requires { length free.now ≡ length definitions.now }
+    ensures { IfOk result (λ tags. (m : ℕ) → tags ≡ tag_each names.now.definitions.now (limits.steps + m) limits.levels (map (λ d. d.now) definitions.now) free.now) }
+{
+    let mut tags = List::new(alloc);
+    for (i, definition) in definitions.iter().enumerate() {
+        tags.add(tag_where(alloc, names, limits, definition, free[i])?)?;
+    }
+    Ok(tags)
+}

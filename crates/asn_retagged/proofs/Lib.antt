@@ -1,0 +1,3 @@
+pub mod Inductions
+pub mod SameLayers
+pub mod SameTrees
