@@ -5,7 +5,7 @@ use Rattle.std.specs.List.{AllPairs, Contains}
 use Rattle.std.specs.Ordering.{nat_cmp}
 use Rattle.std.specs.declared.cmp.Ordering.TheVariants.{Less}
 use Rattle.std.proofs.lemmas.Cmp.{nat_list_cmp_total}
-use Rattle.asn_check.specs.Warnings.{Warning, IsBelow, Precedes, AreWarnings}
+use Rattle.asn_check.specs.Warnings.{Linkedness, Warning, IsBelow, Precedes, AreWarnings}
 use Rattle.asn_names.specs.Definitions.{Definitions}
 
 module _ {X : Type 0} (R : X → X → Type 0) (one_way : (x y : X) → R x y → R y x → ⊥) where
@@ -67,5 +67,5 @@ precedes_one_way v w (inl p) (inr q) = below_itself v.name w.name (sym q.0) p
 precedes_one_way v w (inr p) (inl q) = below_itself w.name v.name (sym p.0) q
 precedes_one_way v w (inr p) (inr q) = p.1 q.2
 
-pub one_list : (defs : Definitions) (ws vs : List Warning) → AreWarnings defs ws → AreWarnings defs vs → ws ≡ vs
-one_list defs ws vs a b = only_order Precedes precedes_one_way ws vs a.ordered b.ordered (λ w c. (b.exact w).1 ((a.exact w).0 c)) (λ w c. (a.exact w).1 ((b.exact w).0 c))
+pub one_list : (defs : Definitions) (linked : Linkedness) (ws vs : List Warning) → AreWarnings defs linked ws → AreWarnings defs linked vs → ws ≡ vs
+one_list defs linked ws vs a b = only_order Precedes precedes_one_way ws vs a.ordered b.ordered (λ w c. (b.exact w).1 ((a.exact w).0 c)) (λ w c. (a.exact w).1 ((b.exact w).0 c))

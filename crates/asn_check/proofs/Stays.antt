@@ -1,18 +1,14 @@
--- The linked definitions keep the meaning of the reading.
-use Rattle.std.proofs.Common.{sym, subst}
-use Rattle.asn_tree.specs.declared.definitions.ToplevelDefinition.TheVariants.{TypeDef}
-use Rattle.asn_check.specs.KeptMeaning.{LinkedKeepsMeaning}
-use Rattle.asn_meaning.specs.Laws.{RetaggedTypesMeanTheSame, TagsKeepPlainForm}
-use Rattle.asn_meaning.specs.Plain.{IsPlain}
+-- Linking keeps the meaning of a reading.
+use Rattle.asn_check.specs.KeptMeaning.{LinkingKeepsMeaning}
+use Rattle.asn_linking.specs.Laws.{CleanMeanTheSame}
+use Rattle.asn_meaning.specs.Laws.{RetaggedTypesMeanTheSame}
 use Rattle.asn_names.specs.Definitions.{definitions_of}
-use Rattle.asn_names.specs.Laws.{LinkedDifferInTags}
-use Rattle.asn_names.proofs.Faultless.{unchanged_where_none}
-use Rattle.asn_unchanged.specs.Laws.{UnchangedIsPlain}
+use Rattle.asn_names.specs.Given.{given_definitions}
+use Rattle.asn_names.specs.Laws.{GivenDifferInTags}
 
-pub keeps : LinkedDifferInTags → RetaggedTypesMeanTheSame → TagsKeepPlainForm → UnchangedIsPlain → LinkedKeepsMeaning
-keeps differ means plain unchanged reading linked are name d is clean free =
-    let defs = definitions_of reading in
-    let tags = differ reading linked are in
-    let m = means defs linked tags name d is in
-    let as_read : IsPlain defs d.ty = unchanged defs d (unchanged_where_none defs d.name (TypeDef d) clean.itself.faultless) in
-    (m.0, m.1, subst (IsPlain linked) (sym m.3) ((plain defs linked tags m.2 d.ty).0 as_read), m.4)
+-- from the reading to the given definitions, and from these to the linked ones
+pub keeps : GivenDifferInTags → RetaggedTypesMeanTheSame → CleanMeanTheSame → LinkingKeepsMeaning
+keeps differ retagged same reading linking name d is clean =
+    let r = retagged (definitions_of reading) (given_definitions reading) (differ reading) name d is in
+    let m = same (given_definitions reading) linking name r.0 clean r.1 in
+    (m.0, m.1, m.3, λ t. (λ h. (m.4 t).0.0 ((r.4 t).0 h), λ h. (r.4 t).1 ((m.4 t).0.1 h)))

@@ -14,7 +14,7 @@ use Rattle.asn_tree.specs.declared.definitions.ToplevelDefinition.{ToplevelDefin
 use Rattle.asn_faults.specs.declared.errors.LinkerError.{LinkerError}
 use Rattle.asn_faults.specs.declared.errors.LinkerErrorType.TheVariants as kind
 use Rattle.asn_check.specs.KeptMeaning.{WarningsAreDue}
-use Rattle.asn_check.specs.Warnings.{Warning, warning, warning_for, IsDue, of_its_fault, of_several, IsBelow, Precedes, AreWarnings, of_fault, of_duplicate, IsFaultOf, AreWarningsOn, AreWarningsOf, no_names, on_each, said_by}
+use Rattle.asn_check.specs.Warnings.{Linkedness, Warning, warning, warning_for, IsDue, of_its_fault, of_several, IsBelow, Precedes, AreWarnings, of_fault, of_duplicate, IsFaultOf, AreWarningsOn, AreWarningsOf, no_names, on_each, said_by}
 use Rattle.asn_names.specs.declared.faults.Fault.{Fault}
 use Rattle.asn_names.specs.declared.faults.Fault.TheVariants.{Argument, MissingDependency, NotYetInplemented}
 use Rattle.asn_index.specs.Definitions.{Definitions, IsStanding, is_duplicate, is_named, last_named, name_of}
@@ -22,7 +22,7 @@ use Rattle.asn_names.specs.Faults.{HasFault}
 use Rattle.asn_names.proofs.Faultless.{one_fault}
 use Rattle.asn_index.specs.Index.{place_in}
 use Rattle.asn_index.specs.declared.names.LastPlace.{LastPlace}
-use Rattle.asn_names.specs.Linked.{IsDefined}
+use Rattle.asn_names.specs.Standing.{IsDefined}
 use Rattle.asn_index.proofs.LastPlaces.{Tells, tells}
 use Rattle.asn_index.proofs.Seen.{or_else}
 
@@ -74,43 +74,43 @@ duplicate_on_name : (name : List ℕ) (b : Bool) → All (IsOn name) (of_duplica
 duplicate_on_name name false = All-nil (IsOn name)
 duplicate_on_name name true = All-cons (IsOn name) (warning name kind.Duplicate) [] refl (All-nil (IsOn name))
 
-module _ (defs : Definitions) where
-  on_name : (name : List ℕ) (here : List Warning) → AreWarningsOn defs name here → All (IsOn name) here
+module _ (defs : Definitions) (linked : Linkedness) where
+  on_name : (name : List ℕ) (here : List Warning) → AreWarningsOn defs linked name here → All (IsOn name) here
   on_name name here on =
       subst (All (IsOn name)) (sym on.told)
       (All-append (IsOn name) (of_fault name on.fault) (of_duplicate name (is_duplicate defs name)) (fault_on_name name on.fault) (duplicate_on_name name (is_duplicate defs name)))
 
-  pairs_on : (name : List ℕ) (here : List Warning) → AreWarningsOn defs name here → AllPairs Precedes here
+  pairs_on : (name : List ℕ) (here : List Warning) → AreWarningsOn defs linked name here → AllPairs Precedes here
   pairs_on name here on = subst (AllPairs Precedes) (sym on.told) (fault_pairs name on.fault (is_duplicate defs name))
 
-  due_of_fault : (name : List ℕ) (o : Option Fault) → IsFaultOf defs name (last_named defs name) o → All (IsDue defs) (of_fault name o)
+  due_of_fault : (name : List ℕ) (o : Option Fault) → IsFaultOf defs name (linked name) (last_named defs name) o → All (IsDue defs linked) (of_fault name o)
   due_of_fault name o found = at (last_named defs name) refl o found
     where
-      at : (x : Option ToplevelDefinition) → last_named defs name ≡ x → (o : Option Fault) → IsFaultOf defs name x o → All (IsDue defs) (of_fault name o)
-      at x is None h = All-nil (IsDue defs)
+      at : (x : Option ToplevelDefinition) → last_named defs name ≡ x → (o : Option Fault) → IsFaultOf defs name (linked name) x o → All (IsDue defs linked) (of_fault name o)
+      at x is None h = All-nil (IsDue defs linked)
       at None is (Some f) h = absurd cc
-      at (Some d) is (Some f) h = All-cons (IsDue defs) (warning_for name f) [] (of_its_fault name d f is h) (All-nil (IsDue defs))
+      at (Some d) is (Some f) h = All-cons (IsDue defs linked) (warning_for name f) [] (of_its_fault name d f is h) (All-nil (IsDue defs linked))
 
-  due_of_duplicate : (name : List ℕ) (b : Bool) → is_duplicate defs name ≡ b → All (IsDue defs) (of_duplicate name b)
-  due_of_duplicate name false is = All-nil (IsDue defs)
-  due_of_duplicate name true is = All-cons (IsDue defs) (warning name kind.Duplicate) [] (of_several name is) (All-nil (IsDue defs))
+  due_of_duplicate : (name : List ℕ) (b : Bool) → is_duplicate defs name ≡ b → All (IsDue defs linked) (of_duplicate name b)
+  due_of_duplicate name false is = All-nil (IsDue defs linked)
+  due_of_duplicate name true is = All-cons (IsDue defs linked) (warning name kind.Duplicate) [] (of_several name is) (All-nil (IsDue defs linked))
 
-  due_on : (name : List ℕ) (here : List Warning) → AreWarningsOn defs name here → All (IsDue defs) here
+  due_on : (name : List ℕ) (here : List Warning) → AreWarningsOn defs linked name here → All (IsDue defs linked) here
   due_on name here on =
-      subst (All (IsDue defs)) (sym on.told)
-      (All-append (IsDue defs) (of_fault name on.fault) (of_duplicate name (is_duplicate defs name)) (due_of_fault name on.fault on.found) (due_of_duplicate name (is_duplicate defs name) refl))
+      subst (All (IsDue defs linked)) (sym on.told)
+      (All-append (IsDue defs linked) (of_fault name on.fault) (of_duplicate name (is_duplicate defs name)) (due_of_fault name on.fault on.found) (due_of_duplicate name (is_duplicate defs name) refl))
 
   -- the fault that is found is the one that stands
-  same_fault : (name : List ℕ) (d : ToplevelDefinition) (o p : Option Fault) → last_named defs name ≡ Some d → HasFault defs name d p → IsFaultOf defs name (last_named defs name) o → o ≡ p
-  same_fault name d o p is h found = one_fault defs name d o p (subst (λ x. IsFaultOf defs name x o) is found) h
+  same_fault : (name : List ℕ) (d : ToplevelDefinition) (o p : Option Fault) → last_named defs name ≡ Some d → HasFault defs name d (linked name) p → IsFaultOf defs name (linked name) (last_named defs name) o → o ≡ p
+  same_fault name d o p is h found = one_fault defs name d (linked name) o p (subst (λ x. IsFaultOf defs name (linked name) x o) is found) h
 
-  fault_there : (name : List ℕ) (here : List Warning) (d : ToplevelDefinition) (f : Fault) → AreWarningsOn defs name here → last_named defs name ≡ Some d → HasFault defs name d (Some f) → Contains here (warning_for name f)
+  fault_there : (name : List ℕ) (here : List Warning) (d : ToplevelDefinition) (f : Fault) → AreWarningsOn defs linked name here → last_named defs name ≡ Some d → HasFault defs name d (linked name) (Some f) → Contains here (warning_for name f)
   fault_there name here d f on is h =
       subst (λ ws. Contains ws (warning_for name f))
       (sym (on.told ∙ ap (λ o. of_fault name o ++ of_duplicate name (is_duplicate defs name)) (same_fault name d on.fault (Some f) is h on.found)))
       (0, omega arith, refl)
 
-  duplicate_there : (name : List ℕ) (here : List Warning) → AreWarningsOn defs name here → is_duplicate defs name ≡ true → Contains here (warning name kind.Duplicate)
+  duplicate_there : (name : List ℕ) (here : List Warning) → AreWarningsOn defs linked name here → is_duplicate defs name ≡ true → Contains here (warning name kind.Duplicate)
   duplicate_there name here on is =
       subst (λ ws. Contains ws (warning name kind.Duplicate)) (sym on.told)
       (Contains-append_right (of_fault name on.fault) (of_duplicate name (is_duplicate defs name)) (warning name kind.Duplicate)
@@ -118,29 +118,29 @@ module _ (defs : Definitions) where
 
   -- ---- name by name
 
-  due_all : {names : List (List ℕ)} {ws : List Warning} → AreWarningsOf defs names ws → All (IsDue defs) ws
-  due_all no_names = All-nil (IsDue defs)
-  due_all (on_each {name} {names} {here} {later} on all) = All-append (IsDue defs) here later (due_on name here on) (due_all all)
+  due_all : {names : List (List ℕ)} {ws : List Warning} → AreWarningsOf defs linked names ws → All (IsDue defs linked) ws
+  due_all no_names = All-nil (IsDue defs linked)
+  due_all (on_each {name} {names} {here} {later} on all) = All-append (IsDue defs linked) here later (due_on name here on) (due_all all)
 
   -- what is among all warnings on a name is among all
-  there : {names : List (List ℕ)} {ws : List Warning} → AreWarningsOf defs names ws → (name : List ℕ) (w : Warning) → Contains names name →
-      ((here : List Warning) → AreWarningsOn defs name here → Contains here w) → Contains ws w
+  there : {names : List (List ℕ)} {ws : List Warning} → AreWarningsOf defs linked names ws → (name : List ℕ) (w : Warning) → Contains names name →
+      ((here : List Warning) → AreWarningsOn defs linked name here → Contains here w) → Contains ws w
   there no_names name w (k, lt, e) h = absurd (omega arith)
   there (on_each {name = x} {names} {here} {later} on all) name w (zero, lt, e) h =
-      Contains-append_left here later w (h here (subst (λ n. AreWarningsOn defs n here) e on))
+      Contains-append_left here later w (h here (subst (λ n. AreWarningsOn defs linked n here) e on))
   there (on_each {name = x} {names} {here} {later} on all) name w (suc k, lt, e) h = Contains-append_right here later w (there all name w (k, omega arith, e) h)
 
   abbrev IsAfter : List ℕ → Warning → Type 0
   IsAfter x w = IsBelow (Some x) w.name
 
-  after : (x : List ℕ) {names : List (List ℕ)} {ws : List Warning} → AreWarningsOf defs names ws → AllByRecursion (λ y. slice_cmp nat_cmp x y ≡ Less) names → All (IsAfter x) ws
+  after : (x : List ℕ) {names : List (List ℕ)} {ws : List Warning} → AreWarningsOf defs linked names ws → AllByRecursion (λ y. slice_cmp nat_cmp x y ≡ Less) names → All (IsAfter x) ws
   after x no_names above = All-nil (IsAfter x)
   after x (on_each {name} {names} {here} {later} on all) above =
       All-append (IsAfter x) here later
       (All-weaker (IsOn name) (IsAfter x) (λ w at. subst (IsBelow (Some x)) (sym at) above.0) here (on_name name here on))
       (after x all above.1)
 
-  pairs_all : {names : List (List ℕ)} {ws : List Warning} → AreWarningsOf defs names ws → IsStrictlySortedBy (slice_cmp nat_cmp) names → AllPairs Precedes ws
+  pairs_all : {names : List (List ℕ)} {ws : List Warning} → AreWarningsOf defs linked names ws → IsStrictlySortedBy (slice_cmp nat_cmp) names → AllPairs Precedes ws
   unfolding IsStrictlySortedBy
   pairs_all no_names sorted = no_pairs Precedes
   pairs_all (on_each {name} {names} {here} {later} on all) sorted =
@@ -157,14 +157,14 @@ module _ (defs : Definitions) where
       go None t = let none : nat_lt 1 0 ≡ true = ap (nat_lt 1) (sym t.uncounted) ∙ is in absurd cc
       go (Some p) t = t.some
 
-  all_due : {names : List (List ℕ)} {ws : List Warning} → AreWarningsOf defs names ws → ((name : List ℕ) → IsDefined defs name → Contains names name) → (w : Warning) → IsDue defs w → Contains ws w
+  all_due : {names : List (List ℕ)} {ws : List Warning} → AreWarningsOf defs linked names ws → ((name : List ℕ) → IsDefined defs name → Contains names name) → (w : Warning) → IsDue defs linked w → Contains ws w
   all_due all each w (of_its_fault name d f is e) = there all name _ (each name (d, is)) (λ here on. fault_there name here d f on is e)
   all_due all each w (of_several name is) = there all name _ (each name (several_defined name is)) (λ here on. duplicate_there name here on is)
 
-  pub are_warnings : {names : List (List ℕ)} {ws : List Warning} → AreWarningsOf defs names ws → IsStrictlySortedBy (slice_cmp nat_cmp) names → ((name : List ℕ) → IsDefined defs name → Contains names name) → AreWarnings defs ws
+  pub are_warnings : {names : List (List ℕ)} {ws : List Warning} → AreWarningsOf defs linked names ws → IsStrictlySortedBy (slice_cmp nat_cmp) names → ((name : List ℕ) → IsDefined defs name → Contains names name) → AreWarnings defs linked ws
   are_warnings {ws = ws} all sorted each =
       record {
-        exact = λ w. (All-contains (IsDue defs) ws w (due_all all), all_due all each w);
+        exact = λ w. (All-contains (IsDue defs linked) ws w (due_all all), all_due all each w);
         ordered = pairs_all all sorted;
       }
 
@@ -184,39 +184,39 @@ name_there name (x ∷ ds) (d, is) = go (last_named ds name) refl (name_there na
     go (Some y) e later h = let c = later (y, e) in (suc c.0, omega (arith, c.1), c.2)
 
 pub are_due : WarningsAreDue
-are_due defs standing ws are all = are_warnings defs all are.ascending (λ name defined. name_there name standing (defined.0, are.each name ∙ defined.1))
+are_due defs standing linked ws are all = are_warnings defs linked all are.ascending (λ name defined. name_there name standing (defined.0, are.each name ∙ defined.1))
 
 pub each_named : (ds : List (Bor ToplevelDefinition)) → map (λ d. name_of d.now) ds ≡ map name_of (map (λ d. d.now) ds)
 each_named [] = refl
 each_named (d ∷ ds) = ap (λ names. name_of d.now ∷ names) (each_named ds)
 
 -- what is warned of, name by name, over definitions that stand
-pub judged : WarningsAreDue → (defs names : Definitions) (ds slice : List (Bor ToplevelDefinition)) (ws : List Warning) → names ≡ defs → slice ≡ ds → IsStanding names (map (λ d. d.now) ds) → AreWarningsOf names (map (λ d. name_of d.now) slice) ws → AreWarnings defs ws
-judged law defs names ds slice ws is same standing all =
-    subst (λ z. AreWarnings z ws) is
-    (law names (map (λ d. d.now) ds) ws standing (subst (λ ns. AreWarningsOf names ns ws) (ap (map (λ d. name_of d.now)) same ∙ each_named ds) all))
+pub judged : WarningsAreDue → (defs names : Definitions) (linked : Linkedness) (ds slice : List (Bor ToplevelDefinition)) (ws : List Warning) → names ≡ defs → slice ≡ ds → IsStanding names (map (λ d. d.now) ds) → AreWarningsOf names linked (map (λ d. name_of d.now) slice) ws → AreWarnings defs linked ws
+judged law defs names linked ds slice ws is same standing all =
+    subst (λ z. AreWarnings z linked ws) is
+    (law names (map (λ d. d.now) ds) linked ws standing (subst (λ ns. AreWarningsOf names linked ns ws) (ap (map (λ d. name_of d.now)) same ∙ each_named ds) all))
 
 -- ---- one definition after the other
 
 -- with the warnings on the names behind, whatever these are, the warnings so far are those on all names
-abbrev pub AreBegun : Definitions → List (List ℕ) → List (List ℕ) → List Warning → Type 0
-AreBegun defs names behind so_far = (later : List Warning) → AreWarningsOf defs behind later → AreWarningsOf defs names (so_far ++ later)
+abbrev pub AreBegun : Definitions → Linkedness → List (List ℕ) → List (List ℕ) → List Warning → Type 0
+AreBegun defs linked names behind so_far = (later : List Warning) → AreWarningsOf defs linked behind later → AreWarningsOf defs linked names (so_far ++ later)
 
-module _ (defs : Definitions) {X : Type 0} (f : X → List ℕ) (names : List (List ℕ)) (items : List X) where
-  pub begun : (so_far : List LinkerError) → names ≡ map f items → so_far ≡ [] → AreBegun defs names (map f items) (map said_by so_far)
-  begun so_far is none later h = subst (λ ns. AreWarningsOf defs ns (map said_by so_far ++ later)) (sym is) (subst (λ ws. AreWarningsOf defs (map f items) (map said_by ws ++ later)) (sym none) h)
+module _ (defs : Definitions) (linked : Linkedness) {X : Type 0} (f : X → List ℕ) (names : List (List ℕ)) (items : List X) where
+  pub begun : (so_far : List LinkerError) → names ≡ map f items → so_far ≡ [] → AreBegun defs linked names (map f items) (map said_by so_far)
+  begun so_far is none later h = subst (λ ns. AreWarningsOf defs linked ns (map said_by so_far ++ later)) (sym is) (subst (λ ws. AreWarningsOf defs linked (map f items) (map said_by ws ++ later)) (sym none) h)
 
-  pub next_warned : (i : ℕ) (x : X) (so_far here all : List LinkerError) → i < length items → x ≡ get_or items i x → AreBegun defs names (map f (drop i items)) (map said_by so_far) →
-      AreWarningsOn defs (f x) (map said_by here) → all ≡ so_far ++ here → AreBegun defs names (map f (drop (i + 1) items)) (map said_by all)
+  pub next_warned : (i : ℕ) (x : X) (so_far here all : List LinkerError) → i < length items → x ≡ get_or items i x → AreBegun defs linked names (map f (drop i items)) (map said_by so_far) →
+      AreWarningsOn defs linked (f x) (map said_by here) → all ≡ so_far ++ here → AreBegun defs linked names (map f (drop (i + 1) items)) (map said_by all)
   next_warned i x so_far here all lt is so on e later h =
       let first : drop i items ≡ x ∷ drop (i + 1) items = drop_more items i x lt ∙ ap (λ y. y ∷ drop (i + 1) items) (sym is) in
-      let with_here = subst (λ ys. AreWarningsOf defs (map f ys) (map said_by here ++ later)) (sym first) (on_each on h) in
+      let with_here = subst (λ ys. AreWarningsOf defs linked (map f ys) (map said_by here ++ later)) (sym first) (on_each on h) in
       let told : map said_by all ≡ map said_by so_far ++ map said_by here = ap (map said_by) e ∙ map-append said_by so_far here in
-      subst (AreWarningsOf defs names) (sym (append_assoc (map said_by so_far) (map said_by here) later) ∙ ap (λ ws. ws ++ later) (sym told)) (so (map said_by here ++ later) with_here)
+      subst (AreWarningsOf defs linked names) (sym (append_assoc (map said_by so_far) (map said_by here) later) ∙ ap (λ ws. ws ++ later) (sym told)) (so (map said_by here ++ later) with_here)
 
-  pub all_warned : (i : ℕ) (so_far : List LinkerError) → length items ≤ i → AreBegun defs names (map f (drop i items)) (map said_by so_far) → AreWarningsOf defs names (map said_by so_far)
+  pub all_warned : (i : ℕ) (so_far : List LinkerError) → length items ≤ i → AreBegun defs linked names (map f (drop i items)) (map said_by so_far) → AreWarningsOf defs linked names (map said_by so_far)
   all_warned i so_far le so =
-      subst (AreWarningsOf defs names) (append-nil (map said_by so_far)) (so [] (subst (λ ys. AreWarningsOf defs (map f ys) []) (sym (drop_all i items le)) no_names))
+      subst (AreWarningsOf defs linked names) (append-nil (map said_by so_far)) (so [] (subst (λ ys. AreWarningsOf defs linked (map f ys) []) (sym (drop_all i items le)) no_names))
 
 -- ---- which definitions lead to no circle
 

@@ -1,9 +1,8 @@
 -- What linking keeps of the meaning of definitions.
-use Rattle.std.specs.Prelude.{◌≡◌, ◌↔◌, ℕ, List, map, Some, None}
-use Rattle.asn_tree.specs.declared.definitions.ToplevelDefinition.TheVariants.{TypeDef}
+use Rattle.std.specs.Prelude.{◌≡◌, ◌↔◌, ℕ, List, map, Some, true}
 use Rattle.asn_tree.specs.declared.definitions.ToplevelTypeDefinition.{ToplevelTypeDefinition}
 use Rattle.asn_tree.specs.declared.types.ASN1Type.{ASN1Type}
-use Rattle.asn_check.specs.Warnings.{Warning, AreWarnings, AreWarningsOf}
+use Rattle.asn_check.specs.Warnings.{AreWarnings, AreWarningsOf, Linkedness, Warning}
 use Rattle.asn_meaning.specs.Accepts.{Accepts}
 use Rattle.asn_meaning.specs.Definitions.{type_named}
 use Rattle.asn_meaning.specs.Plain.{IsPlain}
@@ -11,8 +10,8 @@ use Rattle.asn_meaning.specs.Scopes.{Empty}
 use Rattle.asn_meaning.specs.ValueTrees.{ValueTree}
 use Rattle.asn_index.specs.Definitions.{IsStanding, name_of}
 use Rattle.asn_names.specs.Definitions.{Definitions, Module, definitions_of}
-use Rattle.asn_names.specs.Faults.{IsClean}
-use Rattle.asn_names.specs.Linked.{AreLinked}
+use Rattle.asn_names.specs.Given.{given_definitions}
+use Rattle.asn_linking.specs.Linked.{Linking, is_clean, linked_definitions}
 
 -- The second type accepts over its definitions exactly the value trees that the first accepts over its own.
 abbrev pub AcceptsAlike : Definitions → ASN1Type → Definitions → ASN1Type → Type 0
@@ -25,20 +24,22 @@ Meant reading linked name ty =
     (e : ToplevelTypeDefinition) × (type_named linked name ≡ Some e) × IsPlain linked e.ty
     × AcceptsAlike (definitions_of reading) ty linked e.ty
 
--- So it is with each clean type definition without parameters.
-abbrev pub KeepsMeaning : List Module → Definitions → Type 0
-KeepsMeaning reading linked =
-    (name : List ℕ) (d : ToplevelTypeDefinition) → type_named (definitions_of reading) name ≡ Some d →
-    IsClean (definitions_of reading) (TypeDef d) → d.parameterization ≡ None → Meant reading linked name d.ty
+-- So it is with each clean type definition.
+abbrev pub KeepsMeaning : (reading : List Module) → Linking (given_definitions reading) → Type 0
+KeepsMeaning reading linking =
+    (name : List ℕ) (d : ToplevelTypeDefinition) → type_named (definitions_of reading) name ≡ Some d → is_clean linking name ≡ true →
+    Meant reading (linked_definitions linking) name d.ty
 
--- The linked definitions of a reading keep its meaning.
-abbrev pub LinkedKeepsMeaning : Type 0
-LinkedKeepsMeaning = (reading : List Module) (linked : Definitions) → AreLinked reading linked → KeepsMeaning reading linked
+-- Linking keeps the meaning of a reading.
+abbrev pub LinkingKeepsMeaning : Type 0
+LinkingKeepsMeaning = (reading : List Module) (linking : Linking (given_definitions reading)) → KeepsMeaning reading linking
 
 -- The warnings name by name, over the definitions that stand, are exactly those that are due, in order.
 abbrev pub WarningsAreDue : Type 0
-WarningsAreDue = (defs standing : Definitions) (warnings : List Warning) → IsStanding defs standing → AreWarningsOf defs (map name_of standing) warnings → AreWarnings defs warnings
+WarningsAreDue =
+    (defs standing : Definitions) (linked : Linkedness) (warnings : List Warning) → IsStanding defs standing → AreWarningsOf defs linked (map name_of standing) warnings →
+    AreWarnings defs linked warnings
 
 -- No two lists are the warnings over the same definitions.
 abbrev pub OneListOfWarnings : Type 0
-OneListOfWarnings = (defs : Definitions) (ws vs : List Warning) → AreWarnings defs ws → AreWarnings defs vs → ws ≡ vs
+OneListOfWarnings = (defs : Definitions) (linked : Linkedness) (ws vs : List Warning) → AreWarnings defs linked ws → AreWarnings defs linked vs → ws ≡ vs

@@ -6,7 +6,7 @@ use Rattle.asn_faults.specs.declared.errors.LinkerErrorType.TheVariants as kind
 use Rattle.asn_needs.specs.Faults.{Fault, Cycle, Argument, MissingDependency, NotYetInplemented, SyntaxMismatch, LinkerError, InvalidConstraintsError, IsFaultOn}
 use Rattle.asn_index.specs.Definitions.{Definitions, is_duplicate}
 use Rattle.asn_names.specs.Needed.{AreJudged}
-use Rattle.asn_check.specs.Warnings.{Warning, IsDue, refused, warning}
+use Rattle.asn_check.specs.Warnings.{IsDue, Linkedness, Warning, refused, warning}
 
 -- the warning that tells a fault
 abbrev pub warning_of : List ℕ → Fault → Warning
@@ -25,7 +25,7 @@ pub data IsWarned (defs : Definitions) : Warning → Type 0 where
 
 -- Where linking judges all definitions whole, a warning is due exactly where it stands.
 abbrev pub DueAreWarned : Type 0
-DueAreWarned = (defs : Definitions) → AreJudged defs → (w : Warning) → IsDue defs w ↔ IsWarned defs w
+DueAreWarned = (defs : Definitions) (linked : Linkedness) → AreJudged defs → (w : Warning) → IsDue defs linked w ↔ IsWarned defs w
 
 -- The warnings are exactly those that stand, where linking judges all definitions whole.
 abbrev pub WarnsOfFaults : Definitions → List Warning → Type 0

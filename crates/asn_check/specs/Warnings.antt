@@ -39,11 +39,15 @@ warning_for name NotYetInplemented = refused name grammar.NotYetInplemented
 
 -- ---- which warnings are due
 
+-- of each name, whether linking made the type of its definition
+abbrev pub Linkedness : Type 0
+Linkedness = List ℕ → Bool
+
 -- A warning is due of the fault that stands in the definition that stands for a name, and of Duplicate where several
 -- definitions have the name. No other is.
-pub data IsDue (defs : Definitions) : Warning → Type 0 where
-  of_its_fault : (name : List ℕ) (d : ToplevelDefinition) (f : Fault) → last_named defs name ≡ Some d → HasFault defs name d (Some f) → IsDue defs (warning_for name f)
-  of_several : (name : List ℕ) → is_duplicate defs name ≡ true → IsDue defs (warning name kind.Duplicate)
+pub data IsDue (defs : Definitions) (linked : Linkedness) : Warning → Type 0 where
+  of_its_fault : (name : List ℕ) (d : ToplevelDefinition) (f : Fault) → last_named defs name ≡ Some d → HasFault defs name d (linked name) (Some f) → IsDue defs linked (warning_for name f)
+  of_several : (name : List ℕ) → is_duplicate defs name ≡ true → IsDue defs linked (warning name kind.Duplicate)
 
 -- the first name is below the second in byte order
 abbrev pub IsBelow : Option (List ℕ) → Option (List ℕ) → Type 0
@@ -55,8 +59,8 @@ abbrev pub Precedes : Warning → Warning → Type 0
 Precedes v w = IsBelow v.name w.name ⊎ ((v.name ≡ w.name) × (v.kind ≡ kind.Duplicate → ⊥) × (w.kind ≡ kind.Duplicate))
 
 -- The warnings over definitions: exactly those that are due, each once, in order.
-pub record AreWarnings (defs : Definitions) (warnings : List Warning) : Type 0 where
-  pub exact : (w : Warning) → Contains warnings w ↔ IsDue defs w
+pub record AreWarnings (defs : Definitions) (linked : Linkedness) (warnings : List Warning) : Type 0 where
+  pub exact : (w : Warning) → Contains warnings w ↔ IsDue defs linked w
   pub ordered : AllPairs Precedes warnings
 
 -- ---- the same, name by name
@@ -70,18 +74,18 @@ abbrev pub of_duplicate : List ℕ → Bool → List Warning
 of_duplicate name several = if several then warning name kind.Duplicate ∷ [] else []
 
 -- the fault of a definition of the name, where there is one
-abbrev pub IsFaultOf : Definitions → List ℕ → Option ToplevelDefinition → Option Fault → Type 0
-IsFaultOf defs name None fault = fault ≡ None
-IsFaultOf defs name (Some d) fault = HasFault defs name d fault
+abbrev pub IsFaultOf : Definitions → List ℕ → Bool → Option ToplevelDefinition → Option Fault → Type 0
+IsFaultOf defs name linked None fault = fault ≡ None
+IsFaultOf defs name linked (Some d) fault = HasFault defs name d linked fault
 
 -- All warnings on a name: the fault of the definition that stands for it, then that others of the name stand before it.
-pub record AreWarningsOn (defs : Definitions) (name : List ℕ) (warnings : List Warning) : Type 0 where
+pub record AreWarningsOn (defs : Definitions) (linked : Linkedness) (name : List ℕ) (warnings : List Warning) : Type 0 where
   pub fault : Option Fault
-  pub found : IsFaultOf defs name (last_named defs name) fault
+  pub found : IsFaultOf defs name (linked name) (last_named defs name) fault
   pub told : warnings ≡ of_fault name fault ++ of_duplicate name (is_duplicate defs name)
 
 -- all warnings, name by name
-pub data AreWarningsOf (defs : Definitions) : List (List ℕ) → List Warning → Type 0 where
-  no_names : AreWarningsOf defs [] []
-  on_each : {name : List ℕ} {names : List (List ℕ)} {here later : List Warning} → AreWarningsOn defs name here → AreWarningsOf defs names later →
-      AreWarningsOf defs (name ∷ names) (here ++ later)
+pub data AreWarningsOf (defs : Definitions) (linked : Linkedness) : List (List ℕ) → List Warning → Type 0 where
+  no_names : AreWarningsOf defs linked [] []
+  on_each : {name : List ℕ} {names : List (List ℕ)} {here later : List Warning} → AreWarningsOn defs linked name here → AreWarningsOf defs linked names later →
+      AreWarningsOf defs linked (name ∷ names) (here ++ later)

@@ -1,20 +1,20 @@
 //! What linking keeps, as laws: each is the contract of a function that does nothing but name the laws below it.
 
-ghost use Rattle.asn_check.specs.KeptMeaning.{LinkedKeepsMeaning, OneListOfWarnings, WarningsAreDue};
+ghost use Rattle.asn_check.specs.KeptMeaning.{LinkingKeepsMeaning, OneListOfWarnings, WarningsAreDue};
 ghost use Rattle.asn_check.specs.Needed.{DueAreWarned};
 
-use asn_meaning::{retagged_types_mean_the_same, tags_keep_plain_form};
-use asn_names::{faults_stand, linked_differ_in_tags};
-use asn_unchanged::unchanged_is_plain;
+use asn_linking::clean_mean_the_same;
+use asn_meaning::retagged_types_mean_the_same;
+use asn_names::{faults_stand, given_differ_in_tags};
 
-/// The linked definitions of a reading keep its meaning.
-pub fn linked_keeps_meaning()
-    ensures { LinkedKeepsMeaning }
+/// Linking keeps the meaning of a reading: each clean definition of a type is in plain form among the linked definitions, and accepts
+/// there what it accepts in the reading.
+pub fn linking_keeps_meaning()
+    ensures { LinkingKeepsMeaning }
 {
-    linked_differ_in_tags();
+    given_differ_in_tags();
     retagged_types_mean_the_same();
-    tags_keep_plain_form();
-    unchanged_is_plain();
+    clean_mean_the_same();
 }
 
 /// The warnings name by name, over the definitions that stand, are exactly those that are due, in order.

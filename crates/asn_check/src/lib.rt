@@ -9,9 +9,10 @@ mod laws;
 mod lines;
 mod link;
 mod linked;
+mod literals;
 mod warnings;
 
-pub use laws::{due_are_warned, linked_keeps_meaning, one_list_of_warnings, warnings_are_due};
+pub use laws::{due_are_warned, linking_keeps_meaning, one_list_of_warnings, warnings_are_due};
 pub use lines::listing;
 pub use link::link_reading;
 pub use linked::Linked;

@@ -3,11 +3,14 @@
 ghost use Rattle.asn_check.specs.Warnings.{AreWarningsOf, AreWarningsOn, IsFaultOf, of_duplicate, of_fault, refused, said_by, warning, warning_for};
 ghost use Rattle.asn_circles.specs.Circles.{FollowersAre, FollowsNoCircle, FreeAre, LeadsToNoCircle};
 ghost use Rattle.asn_index.specs.Definitions.{last_named, name_of};
-ghost use Rattle.std.specs.Prelude.{◌≡◌, ◌↔◌, ◌++◌, IfOk, IsTrue, OnOk, map};
+ghost use Rattle.asn_linking.specs.Linked.{is_told};
+ghost use Rattle.asn_name_graph.specs.Drawn.{Ascend};
+ghost use Rattle.std.specs.Prelude.{◌≡◌, ◌↔◌, ◌++◌, IfOk, IsTrue, OnOk, length, map};
 
 use crate::judging::fault_of;
 use asn_copy_trees::copy_text;
 use asn_index::Names;
+use asn_linking::is_told;
 use asn_memory::{List, Mem, Text};
 use asn_names::Fault;
 use asn_tree::{GrammarErrorType, LinkerError, LinkerErrorType, ToplevelDefinition};
@@ -73,23 +76,32 @@ fn warn_of_fault(
     }
 }
 
-/// The fault of the definition that stands for the name.
+/// The fault of the definition that stands for the name, where its type was linked or not.
 ///
 /// Err: want of memory.
 fn standing_fault(
     alloc: Global,
     names: &Names<'_>,
     name: &str,
+    linked: bool,
     is_free: bool,
     follows_none: bool,
 ) -> Mem<Option<Fault>>
     requires free { IsTrue is_free ↔ LeadsToNoCircle names.now.definitions.now name.now }
     requires follows { IsTrue follows_none ↔ FollowsNoCircle names.now.definitions.now name.now }
-    ensures { IfOk result (λ fault. IsFaultOf names.now.definitions.now name.now (last_named names.now.definitions.now name.now) fault) }
+    ensures { IfOk result (λ fault. IsFaultOf names.now.definitions.now name.now linked (last_named names.now.definitions.now name.now) fault) }
 {
     match names.last_named(name) {
         Some(definition) => {
-            let fault = fault_of(alloc, names, name, definition, is_free, follows_none)?;
+            let fault = fault_of(
+                alloc,
+                names,
+                name,
+                definition,
+                linked,
+                is_free,
+                follows_none,
+            )?;
             Ok(fault)
         }
         None => Ok(None),
@@ -112,21 +124,26 @@ fn warn_of_duplicate(
     }
 }
 
-/// All warnings on a name.
+/// All warnings on a name, where `made` tells of each of all names whether the type of its definition was linked.
 ///
 /// Err: want of memory.
 fn warnings_on(
     alloc: Global,
     names: &Names<'_>,
+    all: &[&Text],
+    made: &[bool],
     name: &Text,
     is_free: bool,
     follows_none: bool,
 ) -> Mem<List<LinkerError>>
+    requires ascend { Ascend (map (λ n. n.now) all.now) }
+    requires long { length made.now ≡ length all.now }
     requires free { IsTrue is_free ↔ LeadsToNoCircle names.now.definitions.now name.now }
     requires follows { IsTrue follows_none ↔ FollowsNoCircle names.now.definitions.now name.now }
-    ensures { IfOk result (λ ws. AreWarningsOn names.now.definitions.now name.now (map said_by ws)) }
+    ensures { IfOk result (λ ws. AreWarningsOn names.now.definitions.now (is_told (map (λ n. n.now) all.now) made.now) name.now (map said_by ws)) }
 {
-    let fault = standing_fault(alloc, names, name.as_str(), is_free, follows_none)?;
+    let linked = is_told(all, made, name);
+    let fault = standing_fault(alloc, names, name.as_str(), linked, is_free, follows_none)?;
     let mut warnings = List::new(alloc);
     warn_of_fault(alloc, &mut warnings, name, fault)?;
     let several = names.is_duplicate(name.as_str());
@@ -135,23 +152,29 @@ fn warnings_on(
 }
 
 /// All warnings on the names of these definitions, in their order; `free` tells of each whether it leads to no circle, and `follow`
-/// whether nothing in the types of its defaults, in its tables and in its contents does.
+/// whether nothing in the types of its defaults, in its tables and in its contents does; `made` tells of each of all names whether the
+/// type of its definition was linked.
 ///
 /// Err: want of memory.
 pub(crate) fn warnings_on_all(
     alloc: Global,
     names: &Names<'_>,
+    all: &[&Text],
+    made: &[bool],
     definitions: &[&ToplevelDefinition],
     free: &[bool],
     follow: &[bool],
 ) -> Mem<List<LinkerError>>
+    requires ascend { Ascend (map (λ n. n.now) all.now) }
+    requires long { length made.now ≡ length all.now }
     requires free { FreeAre names.now.definitions.now (map (λ d. name_of d.now) definitions.now) free.now }
     requires follow { FollowersAre names.now.definitions.now (map (λ d. name_of d.now) definitions.now) follow.now }
-    ensures { IfOk result (λ ws. AreWarningsOf names.now.definitions.now (map (λ d. name_of d.now) definitions.now) (map said_by ws)) }
+    ensures { IfOk result (λ ws. AreWarningsOf names.now.definitions.now (is_told (map (λ n. n.now) all.now) made.now) (map (λ d. name_of d.now) definitions.now) (map said_by ws)) }
 {
     let mut warnings = List::new(alloc);
     for (i, definition) in definitions.iter().enumerate() {
-        let here = warnings_on(alloc, names, definition.name(), free[i], follow[i])?;
+        let name = definition.name();
+        let here = warnings_on(alloc, names, all, made, name, free[i], follow[i])?;
         warnings.append(here)?;
     }
     Ok(warnings)

@@ -36,7 +36,7 @@ use Rattle.asn_needs.proofs.Passing.{none_passes, passes, some_passes}
 use Rattle.asn_names.specs.declared.faults.Fault.{Fault as Warned}
 use Rattle.asn_names.specs.declared.faults.Fault.TheVariants as warned
 use Rattle.asn_names.specs.Definitions.{Definitions, last_named}
-use Rattle.asn_names.specs.Faults.{HasFault, is_judged, first_fault, is_missing}
+use Rattle.asn_names.specs.Faults.{HasFault, is_judged, stays_as_read, first_fault, is_missing}
 use Rattle.asn_names.specs.Laws.{FaultsStand}
 use Rattle.asn_names.specs.Needed.{stands_as, type_occurrence}
 use Rattle.asn_unchanged.specs.References.{names_in}
@@ -317,24 +317,24 @@ module _ (stay : HeadsStay) (defs : Definitions) (basic : AreBasic defs) (n : �
 -- ---- whatever the number of steps
 
 -- the fault of a definition that linking leaves as it is
-fault_found : HeadsStay → (defs : Definitions) → AreBasic defs → (name : List ℕ) (d : ToplevelTypeDefinition) → last_named defs name ≡ Some (TypeDef d) → IsBasicDefinition (TypeDef d) → is_unchanged (TypeDef d) ≡ true →
-    HasFault defs name (TypeDef d) (if list_any (is_missing defs) (names_in d.ty) then Some warned.MissingDependency else None)
-fault_found stay defs basic name d is b unchanged =
+fault_found : HeadsStay → (defs : Definitions) → AreBasic defs → (name : List ℕ) (d : ToplevelTypeDefinition) (linked : Bool) → last_named defs name ≡ Some (TypeDef d) → IsBasicDefinition (TypeDef d) → is_unchanged (TypeDef d) ≡ true →
+    HasFault defs name (TypeDef d) linked (if list_any (is_missing defs) (names_in d.ty) then Some warned.MissingDependency else None)
+fault_found stay defs basic name d linked is b unchanged =
     is_judged false (list_any (is_missing defs) (names_in d.ty)) (inl (unchanged, basic_follows_none defs name d is b)) (0, λ m. argument_told stay defs basic (0 + m) name d is b) (0, λ m. missing_told stay defs basic (0 + m) name d is b)
-    (sym (ap (first_fault false (list_any (is_missing defs) (names_in d.ty))) unchanged))
+    (sym (ap (λ b. first_fault false (list_any (is_missing defs) (names_in d.ty)) (b || (stays_as_read (TypeDef d) || linked))) unchanged))
 
 pub faults_stand : HeadsStay → FaultsStand
-faults_stand stay defs basic name (Value d) is unchanged acyclic ordered k = absurd (of_last IsBasicDefinition defs basic name (Value d) is)
-faults_stand stay defs basic name (Information d) is unchanged acyclic ordered k = absurd (of_last IsBasicDefinition defs basic name (Information d) is)
-faults_stand stay defs basic name (TypeDef d) is unchanged acyclic ordered k = (to, from)
+faults_stand stay defs basic name (Value d) linked is unchanged acyclic ordered k = absurd (of_last IsBasicDefinition defs basic name (Value d) is)
+faults_stand stay defs basic name (Information d) linked is unchanged acyclic ordered k = absurd (of_last IsBasicDefinition defs basic name (Information d) is)
+faults_stand stay defs basic name (TypeDef d) linked is unchanged acyclic ordered k = (to, from)
   where
     b : IsBasicDefinition (TypeDef d)
     b = of_last IsBasicDefinition defs basic name (TypeDef d) is
 
-    found : HasFault defs name (TypeDef d) (if list_any (is_missing defs) (names_in d.ty) then Some warned.MissingDependency else None)
-    found = fault_found stay defs basic name d is b unchanged
+    found : HasFault defs name (TypeDef d) linked (if list_any (is_missing defs) (names_in d.ty) then Some warned.MissingDependency else None)
+    found = fault_found stay defs basic name d linked is b unchanged
 
-    to : FaultOf defs (ToDefinition name) k → (f : Warned) × HasFault defs name (TypeDef d) (Some f) × (k ≡ stands_as f)
+    to : FaultOf defs (ToDefinition name) k → (f : Warned) × HasFault defs name (TypeDef d) linked (Some f) × (k ≡ stands_as f)
     to (n, fault) =
         let n' = n + acyclic.0 + ordered.0 in
         let of_cycle : acyclic.0 + (n + ordered.0) ≡ n + acyclic.0 + ordered.0 = omega arith in
@@ -345,7 +345,7 @@ faults_stand stay defs basic name (TypeDef d) is unchanged acyclic ordered k = (
         (subst (λ i. IsCyclic (seen defs i) (ToDefinition name) → ⊥) of_cycle (acyclic.1 (n + ordered.0)))
         (subst (λ i. has_reversed_range (seen defs i) (ToDefinition name) ≡ false) of_order (ordered.1 (n + acyclic.0)))
         (subst (λ i. IsFault (seen defs i) (ToDefinition name) k) of_fault (fault (acyclic.0 + ordered.0))).stands in
-        (warned.MissingDependency, subst (λ c. HasFault defs name (TypeDef d) (if c then Some warned.MissingDependency else None)) missing.1 found, missing.0)
+        (warned.MissingDependency, subst (λ c. HasFault defs name (TypeDef d) linked (if c then Some warned.MissingDependency else None)) missing.1 found, missing.0)
 
     missing : (c : Bool) (f : Warned) → Some f ≡ (if c then Some warned.MissingDependency else None) → (c ≡ true) × (f ≡ warned.MissingDependency)
     missing true warned.Argument e = absurd cc
@@ -353,8 +353,8 @@ faults_stand stay defs basic name (TypeDef d) is unchanged acyclic ordered k = (
     missing true warned.NotYetInplemented e = absurd cc
     missing false f e = absurd cc
 
-    from : (f : Warned) × HasFault defs name (TypeDef d) (Some f) × (k ≡ stands_as f) → FaultOf defs (ToDefinition name) k
+    from : (f : Warned) × HasFault defs name (TypeDef d) linked (Some f) × (k ≡ stands_as f) → FaultOf defs (ToDefinition name) k
     from (f, fault, same) =
-        let m = missing (list_any (is_missing defs) (names_in d.ty)) f (one_fault defs name (TypeDef d) (Some f) (if list_any (is_missing defs) (names_in d.ty) then Some warned.MissingDependency else None) fault found) in
+        let m = missing (list_any (is_missing defs) (names_in d.ty)) f (one_fault defs name (TypeDef d) linked (Some f) (if list_any (is_missing defs) (names_in d.ty) then Some warned.MissingDependency else None) fault found) in
         subst (FaultOf defs (ToDefinition name)) (sym (same ∙ ap stands_as m.1))
         (acyclic.0, λ i. is_fault stay defs basic (acyclic.0 + i) name d is b (acyclic.1 i) m.0)

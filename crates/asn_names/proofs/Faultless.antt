@@ -1,26 +1,12 @@
--- What is known of a definition by its fault.
-use Rattle.std.proofs.Common.{◌≡◌, ℕ, ◌+◌, List, Bool, true, false, Option, None, refl, sym, ap, ◌∙◌, subst, arith}
+-- A definition has one fault.
+use Rattle.std.proofs.Common.{◌≡◌, ℕ, ◌+◌, List, Bool, true, false, Option, refl, sym, ap, ◌∙◌, subst, arith}
 use Rattle.std.specs.Prelude.{◌↔◌}
 use Rattle.asn_tree.specs.declared.definitions.ToplevelDefinition.{ToplevelDefinition}
 use Rattle.asn_needs.specs.Faults.{IsSomewhere}
 use Rattle.asn_needs.specs.Sites.{Seen, seen, Site, ToDefinition}
-use Rattle.asn_unchanged.specs.Unchanged.{is_unchanged}
 use Rattle.asn_names.specs.declared.faults.Fault.{Fault}
 use Rattle.asn_names.specs.Definitions.{Definitions}
-use Rattle.asn_names.specs.Faults.{HasFault, is_judged, is_left, IsTold, first_fault}
-
-unchanged_if : (wrong missing unchanged : Bool) → None ≡ first_fault wrong missing unchanged → unchanged ≡ true
-unchanged_if true missing unchanged h = absurd cc
-unchanged_if false true unchanged h = absurd cc
-unchanged_if false false true h = refl
-unchanged_if false false false h = absurd cc
-
--- one without a fault is left as it is
-pub unchanged_where_none : (defs : Definitions) (name : List ℕ) (d : ToplevelDefinition) → HasFault defs name d None → is_unchanged d ≡ true
-unchanged_where_none defs name d (is_judged wrong missing j w m e) = unchanged_if wrong missing (is_unchanged d) e
-unchanged_where_none defs name d (is_left j e) = absurd cc
-
--- ---- one fault
+use Rattle.asn_names.specs.Faults.{HasFault, is_judged, is_left, is_settled, IsTold, first_fault}
 
 same_truth : (a b : Bool) → ((a ≡ true) ↔ (b ≡ true)) → a ≡ b
 same_truth true true h = refl
@@ -36,11 +22,11 @@ told_once defs name f a b (n, t) (k, u) =
     let right = subst (λ i. IsSomewhere (seen defs i) (ToDefinition name) f ↔ (b ≡ true)) same (u n) in
     same_truth a b (λ e. right.0 (left.1 e), λ e. left.0 (right.1 e))
 
-pub one_fault : (defs : Definitions) (name : List ℕ) (d : ToplevelDefinition) (o p : Option Fault) → HasFault defs name d o → HasFault defs name d p → o ≡ p
-one_fault defs name d o p (is_judged a b j t u e) (is_judged a' b' j' t' u' e') =
+pub one_fault : (defs : Definitions) (name : List ℕ) (d : ToplevelDefinition) (linked : Bool) (o p : Option Fault) → HasFault defs name d linked o → HasFault defs name d linked p → o ≡ p
+one_fault defs name d linked o p (is_judged a b j t u e) (is_judged a' b' j' t' u' e') =
     let wrong = told_once defs name _ a a' t t' in
     let missing = told_once defs name _ b b' u u' in
-    e ∙ ap (λ x. first_fault x b (is_unchanged d)) wrong ∙ ap (λ x. first_fault a' x (is_unchanged d)) missing ∙ sym e'
-one_fault defs name d o p (is_judged a b j t u e) (is_left j' e') = absurd (j' j)
-one_fault defs name d o p (is_left j e) (is_judged a' b' j' t' u' e') = absurd (j j')
-one_fault defs name d o p (is_left j e) (is_left j' e') = e ∙ sym e'
+    e ∙ ap (λ x. first_fault x b (is_settled d linked)) wrong ∙ ap (λ x. first_fault a' x (is_settled d linked)) missing ∙ sym e'
+one_fault defs name d linked o p (is_judged a b j t u e) (is_left j' e') = absurd (j' j)
+one_fault defs name d linked o p (is_left j e) (is_judged a' b' j' t' u' e') = absurd (j j')
+one_fault defs name d linked o p (is_left j e) (is_left j' e') = e ∙ sym e'

@@ -1,5 +1,5 @@
 pub mod Given
-pub mod Linked
+pub mod Standing
 pub mod Occurrences
 pub mod Settled
 pub mod HeadEdges

@@ -1,5 +1,5 @@
--- Laws of names and of linked definitions.
-use Rattle.std.specs.Prelude.{◌≡◌, ◌↔◌, ℕ, List, Some, true}
+-- Laws of names and of given definitions.
+use Rattle.std.specs.Prelude.{◌≡◌, ◌↔◌, ℕ, Bool, List, Some, true}
 use Rattle.std.specs.List.{Contains}
 use Rattle.asn_tree.specs.declared.definitions.ToplevelDefinition.{ToplevelDefinition}
 use Rattle.asn_tree.specs.declared.types.ASN1Type.{ASN1Type}
@@ -15,7 +15,7 @@ use Rattle.asn_names.specs.Definitions.{Definitions, Module, definitions_of, las
 use Rattle.asn_names.specs.Faults.{HasFault, HasTypes}
 use Rattle.asn_names.specs.declared.faults.Fault.{Fault as Warned}
 use Rattle.asn_names.specs.Given.{IsGiven, given_definitions}
-use Rattle.asn_names.specs.Linked.{AreLinked}
+use Rattle.asn_names.specs.Standing.{AreGiven}
 use Rattle.asn_names.specs.Needed.{IsAcyclic, IsOrdered, stands_as, type_occurrence}
 use Rattle.asn_names.specs.Occurrences.{names_of}
 use Rattle.asn_unchanged.specs.Unchanged.{is_unchanged}
@@ -40,23 +40,24 @@ NamesOccur =
     (o : Occurrence) → OccursIn (seen defs n) (ToDefinition name) o ↔ (x : List ℕ) × (o ≡ type_occurrence x) × Contains (names_of d) x
 
 -- Where all definitions have basic forms, the faults that linking finds are those that stand in the relation, and no other
--- stands: in a definition that linking leaves as it is, that does not need itself and whose ranges are no reversed ones.
+-- stands: in a definition that linking leaves as it is, that does not need itself and whose ranges are no reversed ones,
+-- whether linking made its type or not.
 abbrev pub FaultsStand : Type 0
 FaultsStand =
-    (defs : Definitions) → AreBasic defs → (name : List ℕ) (d : ToplevelDefinition) → last_named defs name ≡ Some d →
+    (defs : Definitions) → AreBasic defs → (name : List ℕ) (d : ToplevelDefinition) (linked : Bool) → last_named defs name ≡ Some d →
     is_unchanged d ≡ true → IsAcyclic defs name → IsOrdered defs name →
-    (k : Fault) → FaultOf defs (ToDefinition name) k ↔ (f : Warned) × HasFault defs name d (Some f) × (k ≡ stands_as f)
+    (k : Fault) → FaultOf defs (ToDefinition name) k ↔ (f : Warned) × HasFault defs name d linked (Some f) × (k ≡ stands_as f)
 
--- ---- what linking gives
+-- ---- what linking is given
 
 -- The last definition of a name among the given ones is the last of the name in the reading, as linking gives it.
 abbrev pub LastIsGiven : Type 0
 LastIsGiven = (reading : List Module) (name : List ℕ) → IsGiven (last_named (definitions_of reading) name) (last_named (given_definitions reading) name)
 
--- The linked definitions of a reading are those that stand of the given ones, and no other list is.
-abbrev pub StandingAreLinked : Type 0
-StandingAreLinked = (reading : List Module) (linked : Definitions) → IsStanding (given_definitions reading) linked ↔ AreLinked reading linked
+-- The given definitions of a reading that stand are these, and no other list is.
+abbrev pub StandingAreGiven : Type 0
+StandingAreGiven = (reading : List Module) (standing : Definitions) → IsStanding (given_definitions reading) standing ↔ AreGiven reading standing
 
--- A name sees among the linked definitions what it sees in the reading, with other tags.
-abbrev pub LinkedDifferInTags : Type 0
-LinkedDifferInTags = (reading : List Module) (linked : Definitions) → AreLinked reading linked → DifferInTags (definitions_of reading) linked
+-- A name sees among the given definitions what it sees in the reading, with other tags.
+abbrev pub GivenDifferInTags : Type 0
+GivenDifferInTags = (reading : List Module) → DifferInTags (definitions_of reading) (given_definitions reading)

@@ -1,8 +1,9 @@
 pub mod Definitions
 pub mod Occurrences
+pub mod Literals
 pub mod Faults
 pub mod Given
-pub mod Linked
+pub mod Standing
 pub mod Layers
 pub mod Needed
 pub mod Decided

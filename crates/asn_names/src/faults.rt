@@ -7,6 +7,6 @@ pub enum Fault {
     Argument,
     /// A name has no definition of the kind that its place needs, or that definition lacks what the place asks of it.
     MissingDependency,
-    /// Linking would change the definition, and does not do so yet.
+    /// Linking does not link the definition yet, or does not judge it.
     NotYetInplemented,
 }

@@ -1,8 +1,8 @@
-//! Laws of names and of linked definitions, each the contract of a function without a body of its own.
+//! Laws of names and of given definitions, each the contract of a function without a body of its own.
 //!
 //! They speak of the definitions in specs/ alone. The layers above stand on them: what they rewrite keeps its meaning.
 
-ghost use Rattle.asn_names.specs.Laws.{EveryTreeDecided, FaultsStand, LastIsGiven, LinkedDifferInTags, NamesOccur, StandingAreLinked};
+ghost use Rattle.asn_names.specs.Laws.{EveryTreeDecided, FaultsStand, GivenDifferInTags, LastIsGiven, NamesOccur, StandingAreGiven};
 
 use asn_meaning::{environments_change_tags, heads_stay};
 
@@ -33,14 +33,14 @@ pub fn last_is_given()
     ensures { LastIsGiven }
 {}
 
-/// The linked definitions of a reading are those that stand of the given ones, and no other list is.
-pub fn standing_are_linked()
-    ensures { StandingAreLinked }
+/// The given definitions of a reading that stand: one for each name, the last of that name, and no other list is.
+pub fn standing_are_given()
+    ensures { StandingAreGiven }
 {}
 
-/// A name sees among the linked definitions what it sees in the reading, with other tags.
-pub fn linked_differ_in_tags()
-    ensures { LinkedDifferInTags }
+/// A name sees among the given definitions what it sees in the reading, with other tags.
+pub fn given_differ_in_tags()
+    ensures { GivenDifferInTags }
 {
     environments_change_tags();
 }

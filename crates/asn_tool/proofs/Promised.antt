@@ -38,8 +38,8 @@ came due Usage text sink sink' d = inl d
 came due OutOfMemory text sink sink' d = inl d
 
 -- the linked answer of a text means what is read
-means : (reading : List Module) (linked : Linked) → IsLinkedOf reading linked → MeansWhatIsRead reading linked.definitions
-means reading linked links = links.meaning
+means : (reading : List Module) (linked : Linked) (links : IsLinkedOf reading linked) → MeansWhatIsRead reading links.linking linked.definitions
+means reading linked links = subst (MeansWhatIsRead reading links.linking) (sym links.definitions) links.meaning
 
 -- ---- a text is judged in one way
 
@@ -247,6 +247,7 @@ module _ (words : List (String Global)) (source source' sink sink' : StreamState
         reads = h.reads;
         printed = subst (λ x. Takes sink.bytes x sink'.bytes) h.listed t;
         headers = h.links.modules;
+        linking = h.links.linking;
         definitions = h.links.definitions;
         warned = h.links.warnings;
         faults = h.links.faults;

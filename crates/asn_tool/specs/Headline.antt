@@ -1,20 +1,19 @@
 -- What a run promises its user.
-use Rattle.std.specs.Prelude.{◌≡◌, ◌⊎◌, ℕ, List, Some, None, map}
+use Rattle.std.specs.Prelude.{◌≡◌, ◌⊎◌, ℕ, List, Some, map, true}
 use Rattle.asn_check.specs.declared.linked.Linked.{Linked}
 use Rattle.asn_check.specs.Listing.{listing_of}
 use Rattle.asn_check.specs.KeptMeaning.{AcceptsAlike}
 use Rattle.asn_check.specs.Needed.{WarnsOfFaults}
 use Rattle.asn_check.specs.Warnings.{AreWarnings, said_by}
+use Rattle.asn_linking.specs.Linked.{Linking, is_clean, is_linked, linked_definitions}
 use Rattle.asn_meaning.specs.Definitions.{type_named}
 use Rattle.asn_meaning.specs.Plain.{IsPlain}
 use Rattle.asn_modules.specs.Whole.{IsMatchingError, IsReading}
 use Rattle.asn_names.specs.Definitions.{Definitions, Module, definitions_of}
-use Rattle.asn_names.specs.Faults.{IsClean}
-use Rattle.asn_names.specs.Linked.{AreLinked}
+use Rattle.asn_names.specs.Given.{given_definitions}
 use Rattle.asn_streams.specs.Sink.{Takes}
 use Rattle.asn_streams.specs.Stream.{StreamState}
 use Rattle.asn_text.specs.declared.report.LexerError.{LexerError}
-use Rattle.asn_tree.specs.declared.definitions.ToplevelDefinition.TheVariants.{TypeDef}
 use Rattle.asn_tree.specs.declared.definitions.ToplevelTypeDefinition.{ToplevelTypeDefinition}
 use Rattle.asn_tool.specs.declared.ended.Ended.{Ended}
 use Rattle.asn_tool.specs.declared.status.Status.{Status}
@@ -25,12 +24,11 @@ use Rattle.asn_tool.specs.Run.{IsNoUtf8, IsTooDeep, IsTooLong, IsUnmatched, IsVa
 abbrev pub IsListing : Status → Type 0
 IsListing status = (status ≡ Clean) ⊎ (status ≡ Warned)
 
--- Each clean type definition without parameters is in plain form among the linked definitions, and accepts there
--- exactly the value trees that it accepts in the reading.
-abbrev pub MeansWhatIsRead : List Module → Definitions → Type 0
-MeansWhatIsRead reading linked =
-    (name : List ℕ) (d : ToplevelTypeDefinition) → type_named (definitions_of reading) name ≡ Some d →
-    IsClean (definitions_of reading) (TypeDef d) → d.parameterization ≡ None →
+-- Each clean type definition is in plain form among the linked definitions, and accepts there exactly the value trees that it
+-- accepts in the reading.
+abbrev pub MeansWhatIsRead : (reading : List Module) → Linking (given_definitions reading) → Definitions → Type 0
+MeansWhatIsRead reading linking linked =
+    (name : List ℕ) (d : ToplevelTypeDefinition) → type_named (definitions_of reading) name ≡ Some d → is_clean linking name ≡ true →
     (e : ToplevelTypeDefinition) × (type_named linked name ≡ Some e) × IsPlain linked e.ty
     × AcceptsAlike (definitions_of reading) d.ty linked e.ty
 
@@ -46,14 +44,16 @@ pub record Prints (depth : ℕ) (text : List ℕ) (sink sink' : StreamState) (en
   pub printed : Takes sink.bytes (listing_of linked) sink'.bytes
   -- the headers of the modules, in order
   pub headers : linked.modules ≡ map (λ m. m.0) reading
-  -- one definition for each name, the last of the name, in byte order of names, as read but for numbers and environment
-  pub definitions : AreLinked reading linked.definitions
+  -- what linking makes of the definitions that stand, with their numbers and their modules' tagging environments
+  pub linking : Linking (given_definitions reading)
+  -- one definition for each name, the last of the name, in byte order of names, with the type that linking made of it, where it made one
+  pub definitions : linked.definitions ≡ linked_definitions linking
   -- each definition is warned exactly for its faults, and each name that is defined more than once for that, in byte
   -- order of names
-  pub warned : AreWarnings (definitions_of reading) (map said_by linked.warnings)
+  pub warned : AreWarnings (definitions_of reading) (is_linked linking) (map said_by linked.warnings)
   -- where linking judges all definitions whole, the warnings are the faults that stand, and Duplicate
   pub faults : WarnsOfFaults (definitions_of reading) (map said_by linked.warnings)
-  pub means : MeansWhatIsRead reading linked.definitions
+  pub means : MeansWhatIsRead reading linking linked.definitions
   pub status : ended.status ≡ status_of linked
 
 -- The sink holds what it held, and then a line, and no trees are handed out.

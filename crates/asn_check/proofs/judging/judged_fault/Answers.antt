@@ -5,4 +5,4 @@ use Rattle.asn_check.proofs.judging.judged_fault.Goals as goal
 pub returns : goal.returns
 returns c =
     is_judged c.in_ok-found.found.wrong_argument c.in_ok-found.found.missing_name c.requires (2000, c.in_ok-found.ensures.argument) (2000, c.in_ok-found.ensures.missing)
-    (c.first_fault.ensures ∙ ap (first_fault c.in_ok-found.found.wrong_argument c.in_ok-found.found.missing_name) c.is_unchanged.ensures)
+    (c.first_fault.ensures ∙ ap (first_fault c.in_ok-found.found.wrong_argument c.in_ok-found.found.missing_name) c.is_settled.ensures)

@@ -1,16 +1,19 @@
-use Rattle.std.proofs.Common.{map}
-use Rattle.asn_check.specs.Warnings.{said_by}
-use Rattle.asn_check.proofs.Needed.{warns_of_faults}
-use Rattle.asn_names.specs.Definitions.{definitions_of}
+use Rattle.std.proofs.Common.{ap, length, map, subst, sym, ◌∙◌}
+use Rattle.asn_index.specs.Definitions.{name_of}
+use Rattle.asn_name_graph.specs.Drawn.{Ascend}
+use Rattle.asn_check.proofs.Answered.{answered}
 use Rattle.asn_check.proofs.link.link_reading.Goals as goal
 
-pub returns-clause-definitions : goal.returns-clause-definitions
-returns-clause-definitions c = (c.standing_are_linked.ensures c.args.reading.now c.in_ok-linked.linked.definitions).0 c.in_ok-linked.ensures.definitions
+pub judge_linked-requires-clause-ascend : goal.judge_linked-requires-clause-ascend
+judge_linked-requires-clause-ascend c =
+    let l = c.in_ok-linked.ensures in
+    subst Ascend (sym (ap (map name_of) c.as_slice.ensures ∙ l.named)) l.linking.stand.ascending
 
-pub returns-clause-faults : goal.returns-clause-faults
-returns-clause-faults c = warns_of_faults c.due_are_warned.ensures (definitions_of c.args.reading.now) (map said_by c.in_ok-linked.linked.warnings) c.in_ok-linked.ensures.warnings
+pub judge_linked-requires-clause-long : goal.judge_linked-requires-clause-long
+judge_linked-requires-clause-long c = ap length c.as_slice-made.ensures ∙ c.in_ok-linked.ensures.long ∙ sym (ap length c.as_slice.ensures)
 
-pub returns-clause-meaning : goal.returns-clause-meaning
-returns-clause-meaning c =
-    c.linked_keeps_meaning.ensures c.args.reading.now c.in_ok-linked.linked.definitions
-    ((c.standing_are_linked.ensures c.args.reading.now c.in_ok-linked.linked.definitions).0 c.in_ok-linked.ensures.definitions)
+pub returns : goal.returns
+returns c =
+    answered c.linking_keeps_meaning.ensures c.due_are_warned.ensures c.args.reading.now c.in_ok-linked.linked.definitions c.as_slice.result.now c.in_ok-linked.linked.made c.as_slice-made.result.now
+    c.in_ok-linked.linked.closed (record { modules = c.in_ok-modules.modules; definitions = c.into_definitions.result; warnings = c.in_ok-warnings.warnings }) c.in_ok-linked.ensures c.as_slice.ensures
+    c.as_slice-made.ensures c.into_definitions.ensures c.in_ok-modules.ensures c.in_ok-warnings.ensures

@@ -1,5 +1,5 @@
--- The linked definitions of a reading are those that stand of the given ones, and they differ from the reading's in tags.
-use Rattle.std.proofs.Common.{◌≡◌, ◌⊎◌, inl, inr, ℕ, List, [], ◌∷◌, map, Bool, true, false, Option, Some, None, refl, sym, ap, ◌∙◌, subst}
+-- The given definitions of a reading that stand, and that the given ones differ from the reading's in tags.
+use Rattle.std.proofs.Common.{◌≡◌, ℕ, List, [], ◌∷◌, map, Bool, true, false, Option, Some, None, refl, sym, ap, ◌∙◌, subst}
 use Rattle.std.specs.Prelude.{codes, if◌then◌else◌}
 use Rattle.std.specs.Cmp.Lexicographic.{slice_cmp}
 use Rattle.std.specs.List.{All, AllByRecursion}
@@ -11,7 +11,7 @@ use Rattle.std.proofs.lemmas.List.Elements.{All-head, All-tail, All-cons, All-ni
 use Rattle.std.proofs.lemmas.Map.Text.{is_eq-slice_cmp}
 use Rattle.std.proofs.lemmas.Slice.Eq.{bytes_eq-Decides}
 use Rattle.asn_tree.specs.declared.definitions.ToplevelDefinition.{ToplevelDefinition}
-use Rattle.asn_tree.specs.declared.definitions.ToplevelDefinition.TheVariants.{TypeDef, Value, Information}
+use Rattle.asn_tree.specs.declared.definitions.ToplevelDefinition.TheVariants.{Information}
 use Rattle.asn_syntax.specs.declared.objects.ObjectFieldIdentifier.TheVariants.{SingleValue, MultipleValue}
 use Rattle.asn_tree.specs.Passes.{type_parts}
 use Rattle.asn_tree.specs.declared.objects.ASN1Information.TheVariants.{ObjectClass}
@@ -19,12 +19,13 @@ use Rattle.asn_tree.specs.declared.types.ASN1Type.{ASN1Type}
 use Rattle.asn_tree.specs.declared.types.ASN1Type.TheVariants.{outs-ObjectIdentifier}
 use Rattle.asn_meaning.specs.Definitions.{built_in, plain_identifier, type_identifier}
 use Rattle.asn_meaning.specs.Laws.{EnvironmentsChangeTags}
-use Rattle.asn_meaning.specs.Tags.{BothAlike, DifferInTags, IsRetagged, TagChange, tagged, tagging}
+use Rattle.asn_meaning.specs.Tags.{BothAlike, IsRetagged, TagChange, tagged, tagging}
 use Rattle.asn_meaning.proofs.TagLayers.{type_by_level}
 use Rattle.asn_index.specs.Definitions.{is_named, name_of, IsStanding}
 use Rattle.asn_names.specs.Definitions.{Definitions, Module, definitions_of, last_named}
 use Rattle.asn_names.specs.Given.{IsGiven, given_definitions}
-use Rattle.asn_names.specs.Linked.{AreLinked, IsDefined, MayBeDropped}
+use Rattle.asn_names.specs.Laws.{GivenDifferInTags}
+use Rattle.asn_names.specs.Standing.{AreGiven, IsDefined}
 use Rattle.asn_names.proofs.Given.{last_given}
 use Rattle.asn_index.proofs.Seen.{or_else}
 
@@ -84,46 +85,39 @@ last_read reading name (x ∷ ds) d all is = go (last_named ds name) refl (last_
     go None e later h = here (is_named name x) refl h
     go (Some y) e later h = later (e ∙ h)
 
--- linking drops no definition
-pub none_dropped : (d : ToplevelDefinition) → MayBeDropped d → ⊥
-none_dropped (TypeDef d) h = h
-none_dropped (Value d) h = h
-none_dropped (Information d) h = h
-
-module _ (reading : List Module) (linked : Definitions) where
-  pub standing_linked : IsStanding (given_definitions reading) linked → AreLinked reading linked
-  standing_linked standing =
+module _ (reading : List Module) (those : Definitions) where
+  pub standing_given : IsStanding (given_definitions reading) those → AreGiven reading those
+  standing_given standing =
       record {
         ascending = standing.ascending;
-        as_read = All-weaker (λ d. last_named linked (name_of d) ≡ Some d) (IsRead reading) (λ d is. sym (standing.each (name_of d)) ∙ is) linked (each_last linked standing.ascending);
-        kept = λ name d is. inl (stands name d is);
+        as_read = All-weaker (λ d. last_named those (name_of d) ≡ Some d) (IsRead reading) (λ d is. sym (standing.each (name_of d)) ∙ is) those (each_last those standing.ascending);
+        kept = stands;
       }
     where
-      found : (name : List ℕ) (d : ToplevelDefinition) (o : Option ToplevelDefinition) → IsGiven (Some d) o → last_named linked name ≡ o → IsDefined linked name
+      found : (name : List ℕ) (d : ToplevelDefinition) (o : Option ToplevelDefinition) → IsGiven (Some d) o → last_named those name ≡ o → IsDefined those name
       found name d None g is = absurd g
       found name d (Some e) g is = (e, is)
 
-      stands : (name : List ℕ) (d : ToplevelDefinition) → last_named (definitions_of reading) name ≡ Some d → IsDefined linked name
+      stands : (name : List ℕ) (d : ToplevelDefinition) → last_named (definitions_of reading) name ≡ Some d → IsDefined those name
       stands name d is = found name d _ (subst (λ o. IsGiven o (last_named (given_definitions reading) name)) is (last_given reading name)) (standing.each name)
 
-  pub linked_standing : AreLinked reading linked → IsStanding (given_definitions reading) linked
-  linked_standing are = record { ascending = are.ascending; each = each }
+  pub given_standing : AreGiven reading those → IsStanding (given_definitions reading) those
+  given_standing are = record { ascending = are.ascending; each = each }
     where
-      unread : (name : List ℕ) (o p : Option ToplevelDefinition) → last_named (definitions_of reading) name ≡ o → IsGiven o p → last_named linked name ≡ None → None ≡ p
+      unread : (name : List ℕ) (o p : Option ToplevelDefinition) → last_named (definitions_of reading) name ≡ o → IsGiven o p → last_named those name ≡ None → None ≡ p
       unread name None None is g none = refl
       unread name None (Some e) is g none = absurd g
       unread name (Some d) None is g none = absurd g
-      unread name (Some d) (Some e) is g none = go (are.kept name d is)
+      unread name (Some d) (Some e) is g none = let s = are.kept name d is in absurd (two (last_named those name) s.0 none s.1)
         where
-          go : IsDefined linked name ⊎ MayBeDropped d → None ≡ Some e
-          go (inl s) = absurd cc
-          go (inr h) = absurd (none_dropped d h)
+          two : (o : Option ToplevelDefinition) (x : ToplevelDefinition) → o ≡ None → o ≡ Some x → ⊥
+          two o x g h = cc
 
-      each : (name : List ℕ) → last_named linked name ≡ last_named (given_definitions reading) name
-      each name = go (last_named linked name) refl
+      each : (name : List ℕ) → last_named those name ≡ last_named (given_definitions reading) name
+      each name = go (last_named those name) refl
         where
-          go : (o : Option ToplevelDefinition) → last_named linked name ≡ o → last_named linked name ≡ last_named (given_definitions reading) name
-          go (Some d) is = is ∙ sym (last_read reading name linked d are.as_read is)
+          go : (o : Option ToplevelDefinition) → last_named those name ≡ o → last_named those name ≡ last_named (given_definitions reading) name
+          go (Some d) is = is ∙ sym (last_read reading name those d are.as_read is)
           go None is = is ∙ unread name _ _ refl (last_given reading name) is
 
 -- ---- tags
@@ -163,12 +157,9 @@ module _ (law : EnvironmentsChangeTags) where
   given_alike (Some d) None g = absurd g
   given_alike (Some d) (Some e) g = (e, subst (IsRetagged d) (sym g.3) (law g.0 g.1 g.2 d), refl)
 
-  pub linked_differ : (reading : List Module) (linked : Definitions) → AreLinked reading linked → DifferInTags (definitions_of reading) linked
-  linked_differ reading linked are name = go (bytes_eq name (codes "TYPE-IDENTIFIER"))
+  pub given_differ : GivenDifferInTags
+  given_differ reading name = go (bytes_eq name (codes "TYPE-IDENTIFIER"))
     where
-      last_alike : BothAlike IsRetagged (last_named (definitions_of reading) name) (last_named linked name)
-      last_alike = given_alike _ _ (subst (IsGiven (last_named (definitions_of reading) name)) (sym ((linked_standing reading linked are).each name)) (last_given reading name))
-
-      go : (b : Bool) → BothAlike IsRetagged (if b then Some built_in else last_named (definitions_of reading) name) (if b then Some built_in else last_named linked name)
+      go : (b : Bool) → BothAlike IsRetagged (if b then Some built_in else last_named (definitions_of reading) name) (if b then Some built_in else last_named (given_definitions reading) name)
       go true = built_in_stays
-      go false = last_alike
+      go false = given_alike _ _ (last_given reading name)

@@ -1,0 +1,6 @@
+mod Given
+mod Long
+mod Meaning
+mod Left
+mod ByName
+mod Making
