@@ -2,7 +2,7 @@
 """Writes a text of the whole notation of about SIZE bytes to standard output: make_shapes.py SHAPE SIZE.
 
 The shapes are those of usual modules: definitions with imports, long enumerations, nested types, constraints, templates with
-their arguments, and classes with objects. Each name is defined once but in `one name`, and the same words give the same text.
+their arguments, classes with objects, and types in which all of that is put in. Each name is defined once but in `one name`, and the same words give the same text.
 """
 
 import sys
@@ -68,6 +68,21 @@ def classes(number):
     )
 
 
+def linked(number):
+    """Types in which linking has something to put in: arguments, components, fields of a class, values by name, selections."""
+    return (
+        f"Pair{number} {{Left, INTEGER: most}} ::= SEQUENCE {{ left Left, right INTEGER (0..most), label UTF8String (SIZE (1..most)) OPTIONAL }}\n"
+        f"Both{number} ::= Pair{number} {{SEQUENCE OF BOOLEAN, {1 + number % 99}}}\n"
+        f"Deep{number} ::= SEQUENCE {{ one Pair{number} {{Both{number}, least{number}}}, two Pair{number} {{NULL, 7}} OPTIONAL, ... }}\n"
+        f"least{number} INTEGER ::= {number % 50}\n"
+        f"Whole{number} ::= SEQUENCE {{ first NULL, COMPONENTS OF Both{number}, ..., last INTEGER (least{number}..100 | INCLUDES Size{number}) }}\n"
+        f"Size{number} ::= INTEGER (200..{300 + number % 50})\n"
+        f"CLASS{number} ::= CLASS {{ &code INTEGER (0..255) UNIQUE, &Type OPTIONAL }}\n"
+        f"Use{number} ::= SEQUENCE {{ code CLASS{number}.&code, value CLASS{number}.&Type, chosen whole < Chosen{number} }}\n"
+        f"Chosen{number} ::= CHOICE {{ whole [1] Whole{number}, size [2] Size{number} }}\n"
+    )
+
+
 def one_name(number):
     """The same name again."""
     return "A ::= NULL\n"
@@ -80,6 +95,7 @@ DEFINITIONS = {
     "constraints": constrained,
     "templates": template,
     "classes": classes,
+    "linked types": linked,
     "one name": one_name,
 }
 

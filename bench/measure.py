@@ -4,7 +4,8 @@
 The first table is over texts of 10 KB, 100 KB and 1 MB of small types, the second over chains of 1,000, 10,000 and
 100,000 definitions, each of which names the next: looking names up takes the most time there. The third is over texts of
 100 KB and 1 MB that are nearly all blanks, comments, one name, or comments that are not closed. The fourth is over the shapes
-of usual modules of the whole notation at 100 KB, 1 MB and 2 MB, and the last over constraints, components and types in each other.
+of usual modules of the whole notation at 100 KB, 1 MB and 2 MB, and the last ones over long forms, nests and stars that linking follows, and
+constraints, components and types in each other.
 
 run.sh calls it. Times are processor seconds, which other work on the machine changes less than the clock, and the best of five runs
 counts. Peak memory is that of one further run, as GNU time tells it.
@@ -112,6 +113,35 @@ def print_nested(command, folder):
             print(f"{kind:>25} {depth:>6} {length:>7} {status:>6} {best * 1e3:>9.2f} {peak:>9}")
 
 
+def nest(depth, lists):
+    """Templates, each of which takes as many lists of the next; the first is used once."""
+    parts = ["A ::= T0 {NULL}"]
+    for place in range(depth):
+        held = ", ".join(f"a{number} T{place + 1} {{X}}" for number in range(lists))
+        parts.append(f"T{place} {{X}} ::= SEQUENCE {{ {held} }}")
+    return " ".join(parts) + f" T{depth} {{X}} ::= SET OF X"
+
+
+def star(count):
+    """Types that each take the components of one."""
+    rays = " ".join(f"A{place} ::= SEQUENCE {{ COMPONENTS OF B }}" for place in range(count))
+    return f"B ::= SEQUENCE {{ a NULL, b BOOLEAN }} {rays}"
+
+
+def print_linked(command, folder):
+    """Nests of templates, and types with one type's components. A status of 9 is want of memory."""
+    texts = {
+        "a nest, one list a level": nest(30, 1),
+        "a nest, two lists a level": nest(30, 2),
+        "a star of 10,000": star(10_000),
+    }
+    print()
+    print(f"{'linked':>25} {'bytes':>9} {'status':>6} {'best ms':>9} {'peak KB':>9}")
+    for kind, content in texts.items():
+        length, status, best, peak = row(command, f"M DEFINITIONS ::= BEGIN {content} END\n", folder)
+        print(f"{kind:>25} {length:>9} {status:>6} {best * 1e3:>9.2f} {peak:>9}")
+
+
 def print_long(command, folder):
     """One enumeration of 40,000 items, and 50,000 definitions of one name."""
     items = ", ".join(f"item-{place}" for place in range(40_000))
@@ -139,6 +169,7 @@ def main():
         print_lexical_table(command, folder)
         print_shapes(command, folder)
         print_long(command, folder)
+        print_linked(command, folder)
         print_nested([sys.argv[1], "link", "--depth", "2000"], folder)
 
 
