@@ -74,7 +74,7 @@ def linked(number):
         f"Pair{number} {{Left, INTEGER: most}} ::= SEQUENCE {{ left Left, right INTEGER (0..most), label UTF8String (SIZE (1..most)) OPTIONAL }}\n"
         f"Both{number} ::= Pair{number} {{SEQUENCE OF BOOLEAN, {1 + number % 99}}}\n"
         f"Deep{number} ::= SEQUENCE {{ one Pair{number} {{Both{number}, least{number}}}, two Pair{number} {{NULL, 7}} OPTIONAL, ... }}\n"
-        f"least{number} INTEGER ::= {number % 50}\n"
+        f"least{number} INTEGER ::= {1 + number % 50}\n"
         f"Whole{number} ::= SEQUENCE {{ first NULL, COMPONENTS OF Both{number}, ..., last INTEGER (least{number}..100 | INCLUDES Size{number}) }}\n"
         f"Size{number} ::= INTEGER (200..{300 + number % 50})\n"
         f"CLASS{number} ::= CLASS {{ &code INTEGER (0..255) UNIQUE, &Type OPTIONAL }}\n"
