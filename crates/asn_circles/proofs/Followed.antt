@@ -1,21 +1,21 @@
 -- What is told of the names that a definition follows.
 use Rattle.std.proofs.Common.{◌≡◌, ℕ, zero, suc, ◌+◌, ◌<◌, ◌≤◌, ◌⊎◌, ◌↔◌, inl, inr, Bool, true, false, Option, Some, None}
 use Rattle.std.proofs.Common.{List, [], ◌∷◌, ◌++◌, length, map, get_or, take, refl, sym, ap, ◌∙◌, subst, arith}
-use Rattle.std.specs.Prelude.{Contains, is_some, not, ◌&&◌}
+use Rattle.std.specs.Prelude.{Contains, is_some}
 use Rattle.std.specs.List.{AllZip}
 use Rattle.std.proofs.lemmas.Bool.{cases_lt}
 use Rattle.std.proofs.lemmas.List.{get_or-map, get_or_append_left, get_or_push, length-map, map_more}
 use Rattle.std.proofs.lemmas.List.Elements.{Contains-append_cases}
 use Rattle.asn_tree.specs.declared.definitions.ToplevelDefinition.{ToplevelDefinition}
-use Rattle.asn_graph.specs.Graphs.{Edges as Graph, NeedsItself}
-use Rattle.asn_unchanged.specs.Unchanged.{is_unchanged}
+use Rattle.asn_graph.specs.Graphs.{AreOneComponent, Edges as Graph}
 use Rattle.asn_index.specs.Definitions.{Definitions, IsStanding, last_named, name_of}
 use Rattle.asn_circles.specs.Circles.{FollowedAreFree, FollowersAre, FreeAre, Leads, at_once, further, LeadsToNoCircle}
-use Rattle.asn_name_graph.specs.Drawn.{StandsAt}
-use Rattle.asn_circles.specs.inner.Nodes.{AreCircular}
+use Rattle.asn_name_graph.specs.Drawn.{Ascend, StandsAt}
+use Rattle.asn_circles.specs.inner.Nodes.{AreCircular, IsAnyBack, IsBack, IsCircularAt}
 use Rattle.asn_circles.specs.inner.Followed.{AreAllFree, AreTold, FollowEach}
 use Rattle.asn_name_graph.proofs.Added.{none_contained, one_contained}
 use Rattle.asn_circles.proofs.Needed.{names_ascend, names_through}
+use Rattle.asn_name_graph.proofs.Ascending.{one_place}
 use Rattle.asn_name_graph.proofs.Standing.{has_name, stands_for}
 
 -- ---- one name
@@ -54,9 +54,17 @@ pub undefined_free : (defs : Definitions) (names : List (List ℕ)) (free : List
     ((place : ℕ) → StandsAt names name place → ⊥) → LeadsToNoCircle defs name
 undefined_free defs names free name are absent =
     let none = λ (y : List ℕ) (l : Leads defs name y). (let p = are.complete name (leads_defined defs name l) in absent p.0 p.1) in
-    record { itself = λ c. none name c.back; others = λ y l c. none y l }
+    record { itself = λ c. (let p = are.complete name (ap is_some c.stands) in absent p.0 p.1); others = λ y l c. none y l }
 
 -- ---- several names
+
+-- an item's name is among those of the list
+among : {X : Type 0} (f : X → List ℕ) (xs : List X) (i : ℕ) (x : X) → i < length xs → x ≡ get_or xs i x → Contains (map f xs) (f x)
+among f [] i x h is = absurd (omega (arith, h))
+among f (y ∷ ys) zero x h is = (0, omega arith, ap f (sym is))
+among f (y ∷ ys) (suc i) x h is =
+    let c = among f ys i x (omega (arith, h)) is in
+    (suc c.0, (let k : c.0 < length (map f ys) = c.1 in omega (arith, k)), c.2)
 
 module _ (defs : Definitions) where
   pub none_followed : AreAllFree defs []
@@ -78,13 +86,6 @@ module _ (defs : Definitions) where
   pub not_all_free : {X : Type 0} (f : X → List ℕ) (xs : List X) (i : ℕ) (x : X) → i < length xs → x ≡ get_or xs i x →
       (LeadsToNoCircle defs (f x) → ⊥) → AreAllFree defs (map f xs) → ⊥
   not_all_free f xs i x h is bound all = bound (all (f x) (among f xs i x h is))
-    where
-      among : {X : Type 0} (f : X → List ℕ) (xs : List X) (i : ℕ) (x : X) → i < length xs → x ≡ get_or xs i x → Contains (map f xs) (f x)
-      among f [] i x h is = absurd (omega (arith, h))
-      among f (y ∷ ys) zero x h is = (0, omega arith, ap f (sym is))
-      among f (y ∷ ys) (suc i) x h is =
-          let c = among f ys i x (omega (arith, h)) is in
-          (suc c.0, (let k : c.0 < length (map f ys) = c.1 in omega (arith, k)), c.2)
 
 -- ---- all definitions that stand
 
@@ -147,42 +148,67 @@ follow_more f defs xs i x told new b h is same all one =
 
 -- ---- circular definitions
 
-module _ {X : Type 0} (f : X → ToplevelDefinition) (g : Graph) (xs : List X) where
-  -- a node needs itself and its definition is changed
-  abbrev Circular : ℕ → ToplevelDefinition → Type 0
-  Circular x d = NeedsItself g x × (is_unchanged (get_or (map f xs) x d) ≡ false)
+module _ (g : Graph) (names : List (List ℕ)) (x : ℕ) where
+  -- the place of a name is a node
+  pub node_there : (name : List ℕ) (place : ℕ) → StandsAt names name place → length names + 1 ≡ length g.starts → place + 1 < length g.starts
+  node_there name place s long = let h : place < length names = s.within in omega (arith, h, long)
 
+  -- a name stands at one place alone
+  pub back_there : (name : List ℕ) (place : ℕ) → Ascend names → StandsAt names name place → IsBack g names x name → AreOneComponent g x place
+  back_there name place up s b = subst (AreOneComponent g x) (one_place names b.node place up b.stands.within s.within (b.stands.is ∙ sym s.is)) b.one
+
+  pub none_back : IsAnyBack g names x [] → ⊥
+  none_back b = none_contained b.name b.among
+
+  pub more_back : {Y : Type 0} (f : Y → List ℕ) (ys : List Y) (i : ℕ) (y : Y) → i < length ys → y ≡ get_or ys i y →
+      (IsAnyBack g names x (map f (take i ys)) → ⊥) → (IsBack g names x (f y) → ⊥) → IsAnyBack g names x (map f (take (i + 1) ys)) → ⊥
+  more_back f ys i y h is before here b =
+      let next : map f (take i ys) ++ f y ∷ [] ≡ map f (take (i + 1) ys) = ap (λ z. map f (take i ys) ++ f z ∷ []) is ∙ sym (map_more f ys i y h) in
+      go (Contains-append_cases (map f (take i ys)) (f y ∷ []) b.name (subst (λ ns. Contains ns b.name) (sym next) b.among))
+    where
+      go : Contains (map f (take i ys)) b.name ⊎ Contains (f y ∷ []) b.name → ⊥
+      go (inl c) = before (record { name = b.name; among = c; back = b.back })
+      go (inr c) = here (subst (IsBack g names x) (sym (one_contained (f y) b.name c)) b.back)
+
+  pub found_back : {Y : Type 0} (f : Y → List ℕ) (ys : List Y) (i : ℕ) (y : Y) → i < length ys → y ≡ get_or ys i y → IsBack g names x (f y) → IsAnyBack g names x (map f ys)
+  found_back f ys i y h is b = record { name = f y; among = among f ys i y h is; back = b }
+
+module _ {X : Type 0} (f : X → ToplevelDefinition) (g : Graph) (names : List (List ℕ)) (xs : List X) where
   -- this of the nodes so far
   abbrev pub CircularSoFar : List Bool → ℕ → Type 0
-  CircularSoFar marked i = (x : ℕ) (d : ToplevelDefinition) → x < i → ((get_or marked x false ≡ true) ↔ Circular x d)
+  CircularSoFar marked i = (x : ℕ) (d : ToplevelDefinition) → x < i → ((get_or marked x false ≡ true) ↔ IsCircularAt g names x (get_or (map f xs) x d))
 
-  pub circular_more : (marked new : List Bool) (i : ℕ) (x : X) (b needs unchanged : Bool) → length marked ≡ i → i < length xs → x ≡ get_or xs i x → new ≡ marked ++ b ∷ [] →
-      b ≡ (needs && not unchanged) → ((needs ≡ true) ↔ NeedsItself g i) → unchanged ≡ is_unchanged (f x) → CircularSoFar marked i → CircularSoFar new (i + 1)
-  circular_more marked new i x b needs unchanged long h is same both itself stays before y d k =
-      subst (λ bs. (get_or bs y false ≡ true) ↔ Circular y d) (sym same) (go (cases_lt y i))
+  pub circular_more : (marked new : List Bool) (i : ℕ) (x : X) (b : Bool) → length marked ≡ i → i < length xs → x ≡ get_or xs i x → new ≡ marked ++ b ∷ [] →
+      ((b ≡ true) ↔ IsCircularAt g names i (f x)) → CircularSoFar marked i → CircularSoFar new (i + 1)
+  circular_more marked new i x b long h is same told before y d k =
+      subst (λ bs. (get_or bs y false ≡ true) ↔ IsCircularAt g names y (get_or (map f xs) y d)) (sym same) (go (cases_lt y i))
     where
-      told : (n u c : Bool) → c ≡ (n && not u) → (c ≡ true) ↔ ((n ≡ true) × (u ≡ false))
-      told true true c e = ((λ t. (let f : c ≡ false = e in absurd cc)), (λ p. (let q : true ≡ false = p.1 in absurd cc)))
-      told true false c e = ((λ t. (refl, refl)), (λ p. e))
-      told false u c e = ((λ t. (let f : c ≡ false = e in absurd cc)), (λ p. (let q : false ≡ true = p.0 in absurd cc)))
+      there : (e : i ≡ y) → get_or (map f xs) y d ≡ f x
+      there e = ap (λ j. get_or (map f xs) j d) (sym e) ∙ get_or-map f xs i x d h ∙ ap f (sym is)
 
-      there : (e : i ≡ y) → is_unchanged (get_or (map f xs) y d) ≡ is_unchanged (f x)
-      there e = ap is_unchanged (ap (λ j. get_or (map f xs) j d) (sym e) ∙ get_or-map f xs i x d h ∙ ap f (sym is))
+      here : (e : i ≡ y) → (b ≡ true) ↔ IsCircularAt g names y (get_or (map f xs) y d)
+      here e = subst (λ z. (b ≡ true) ↔ IsCircularAt g names y z) (sym (there e)) (subst (λ j. (b ≡ true) ↔ IsCircularAt g names j (f x)) e told)
 
-      here : (e : i ≡ y) → (b ≡ true) ↔ Circular y d
-      here e =
-          let t = told needs unchanged b both in (
-            (λ m. (subst (NeedsItself g) e (itself.0 (t.0 m).0), there e ∙ sym stays ∙ (t.0 m).1)),
-            (λ c. t.1 (itself.1 (subst (NeedsItself g) (sym e) c.0), stays ∙ sym (there e) ∙ c.1)),
-          )
-
-      go : (y < i) ⊎ (i ≤ y) → (get_or (marked ++ b ∷ []) y false ≡ true) ↔ Circular y d
-      go (inl l) = subst (λ c. (c ≡ true) ↔ Circular y d) (sym (get_or_append_left marked (b ∷ []) false y (omega (arith, long, l)))) (before y d l)
+      go : (y < i) ⊎ (i ≤ y) → (get_or (marked ++ b ∷ []) y false ≡ true) ↔ IsCircularAt g names y (get_or (map f xs) y d)
+      go (inl l) = subst (λ c. (c ≡ true) ↔ IsCircularAt g names y (get_or (map f xs) y d)) (sym (get_or_append_left marked (b ∷ []) false y (omega (arith, long, l)))) (before y d l)
       go (inr l) =
           let e : i ≡ y = omega (arith, k, l) in
-          subst (λ c. (c ≡ true) ↔ Circular y d) (sym (get_or_push marked b false y (long ∙ e))) (here e)
+          subst (λ c. (c ≡ true) ↔ IsCircularAt g names y (get_or (map f xs) y d)) (sym (get_or_push marked b false y (long ∙ e))) (here e)
 
-  pub circular_all : (marked : List Bool) (i : ℕ) → length marked ≡ i → length xs ≡ i → CircularSoFar marked i → AreCircular g (map f xs) marked
-  circular_all marked i long all told =
+  pub circular_all : (marked : List Bool) (i : ℕ) → length marked ≡ i → length xs ≡ i → names ≡ map name_of (map f xs) → CircularSoFar marked i → AreCircular g (map f xs) marked
+  circular_all marked i long all named told =
       let l : length (map f xs) ≡ length xs = length-map xs f in
-      record { long = omega (arith, long, all, l); each = λ x d h. told x d (omega (arith, h, all, l)) }
+      record {
+        long = omega (arith, long, all, l);
+        each = λ x d h. subst (λ ns. (get_or marked x false ≡ true) ↔ IsCircularAt g ns x (get_or (map f xs) x d)) named (told x d (omega (arith, h, all, l)));
+      }
+
+-- names of definitions are as many as these
+pub as_long : {X Y : Type 0} (n : X → List ℕ) (f : Y → ToplevelDefinition) (names : List X) (ys : List Y) (g : Graph) → map n names ≡ map name_of (map f ys) → length ys + 1 ≡ length g.starts →
+    length names + 1 ≡ length g.starts
+as_long n f names ys g is long =
+    let a : length (map n names) ≡ length names = length-map names n in
+    let b : length (map name_of (map f ys)) ≡ length (map f ys) = length-map (map f ys) name_of in
+    let c : length (map f ys) ≡ length ys = length-map ys f in
+    let d : length (map n names) ≡ length (map name_of (map f ys)) = ap length is in
+    omega (arith, a, b, c, d, long)

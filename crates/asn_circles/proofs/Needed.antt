@@ -7,14 +7,14 @@ use Rattle.std.proofs.lemmas.Bool.{cases_lt}
 use Rattle.std.proofs.lemmas.List.{get_or-map, get_or_past, length-map}
 use Rattle.std.proofs.lemmas.Simd.{map-map}
 use Rattle.asn_tree.specs.declared.definitions.ToplevelDefinition.{ToplevelDefinition}
-use Rattle.asn_graph.specs.Graphs.{Edges as Graph, HasEdge, Needs, at_once as needs_at_once, further as needs_further}
+use Rattle.asn_graph.specs.Graphs.{AreOneComponent, Edges as Graph, HasEdge, Needs, at_once as needs_at_once, further as needs_further}
 use Rattle.asn_graph.specs.Reach.{AreFree, IsMarked, LeadsToMarked}
 use Rattle.asn_index.specs.Definitions.{Definitions, IsStanding, last_named, name_of}
 use Rattle.asn_references.specs.References.{references_of}
-use Rattle.asn_unchanged.specs.Unchanged.{is_unchanged}
-use Rattle.asn_circles.specs.Circles.{FreeAre, IsCircular, Leads, at_once, further, LeadsToNoCircle, Refers}
+use Rattle.asn_circles.specs.Circles.{AreOneCircle, FreeAre, IsCircular, Leads, leading, at_once, further, LeadsToNoCircle, Refers}
 use Rattle.asn_name_graph.specs.Drawn.{Ascend, IsDrawn, IsMentioned}
-use Rattle.asn_circles.specs.inner.Nodes.{AreCircular}
+use Rattle.asn_unchanged.specs.Unchanged.{is_unchanged}
+use Rattle.asn_circles.specs.inner.Nodes.{AreCircular, IsBack}
 use Rattle.asn_name_graph.proofs.Added.{none_contained}
 use Rattle.asn_name_graph.proofs.Ascending.{one_place}
 use Rattle.asn_name_graph.proofs.Standing.{has_name, stands_for}
@@ -130,24 +130,51 @@ module _ (defs ds : Definitions) (g : Graph) (standing : IsStanding defs ds) (dr
       let e = refers_edge n.0 name n.1 (subst (λ m. Refers defs m name) (sym n.2) r) in
       (e.0, e.1, e.2, needs_further n.3 e.3)
 
-  -- a name that leads to itself stands where a node needs itself
-  circle_needs : (x : ℕ) → x < length ds → Leads defs (name_at x) (name_at x) → Needs g x x
-  circle_needs x h l =
-      let n = leads_needs x h l in
-      subst (λ y. Needs g x y) (one n.0 x n.1 h n.2) n.3
+  -- a name in one circle with another stands at a node of one component
+  circle_back : (x : ℕ) (name : List ℕ) → x < length ds → AreOneCircle defs (name_at x) name → IsBack g (map name_of ds) x name
+  circle_back x name h (inl e) =
+      let l : length (map name_of ds) ≡ length ds = long in
+      record { node = x; stands = record { within = omega (arith, h, l); is = e }; one = inl refl }
+  circle_back x name h (inr (to, from)) =
+      let l : length (map name_of ds) ≡ length ds = long in
+      let n = leads_needs x h to in
+      let m = leads_needs n.0 n.1 (subst (λ z. Leads defs z (name_at x)) (sym n.2) from) in
+      let k : n.0 < length ds = n.1 in
+      record {
+        node = n.0;
+        stands = record { within = omega (arith, k, l); is = n.2 };
+        one = inr (n.3, subst (λ y. Needs g n.0 y) (one m.0 x m.1 h m.2) m.3);
+      }
+
+  back_circle : (x : ℕ) (name : List ℕ) → IsBack g (map name_of ds) x name → AreOneCircle defs (name_at x) name
+  back_circle x name b = go b.one
+    where
+      go : AreOneComponent g x b.node → AreOneCircle defs (name_at x) name
+      go (inl e) = inl (ap name_at e ∙ b.stands.is)
+      go (inr (to, from)) = inr (subst (λ z. Leads defs (name_at x) z) b.stands.is (needs_leads to), subst (λ z. Leads defs z (name_at x)) b.stands.is (needs_leads from))
 
   module _ (marked : List Bool) (circular : AreCircular g ds marked) where
     marked_circular : (x : ℕ) → x < length ds → IsMarked marked x → IsCircular defs (name_at x)
     marked_circular x h m =
         let d : ToplevelDefinition = some_at x h in
         let both = (circular.each x d h).0 m in
-        record { definition = get_or ds x d; stands = stands x d h; changed = both.1; back = needs_leads both.0 }
+        record {
+          definition = get_or ds x d;
+          stands = stands x d h;
+          changed = both.0;
+          name = both.1.name;
+          leads = both.1.among;
+          back = back_circle x both.1.name both.1.back;
+        }
 
     circular_marked : (x : ℕ) → x < length ds → IsCircular defs (name_at x) → IsMarked marked x
     circular_marked x h c =
         let d : ToplevelDefinition = some_at x h in
         let same : c.definition ≡ get_or ds x d = same_some c.definition (get_or ds x d) (sym c.stands ∙ stands x d h) in
-        (circular.each x d h).1 (circle_needs x h c.back, ap is_unchanged (sym same) ∙ c.changed)
+        (circular.each x d h).1 (
+          ap is_unchanged (sym same) ∙ c.changed,
+          record { name = c.name; among = subst (λ e. Contains (leading e) c.name) same c.leads; back = circle_back x c.name h c.back },
+        )
 
     needed_within : (x y : ℕ) → Needs g x y → y < length ds
     needed_within x y (needs_at_once e) = edge_target x y e

@@ -1,4 +1,4 @@
-//! Which definitions follow none that leads to a circle: in the types of defaults, in tables and in contents.
+//! Which definitions follow none that leads to a circle.
 
 ghost use Rattle.asn_circles.specs.Circles.{FollowedAreFree, FollowersAre, FreeAre, LeadsToNoCircle};
 ghost use Rattle.asn_circles.specs.inner.Followed.{AreAllFree, AreTold, FollowEach};
@@ -71,7 +71,7 @@ fn follow_each(
 }
 
 /// For each of the definitions that stand, in their order, whether it follows none that leads to a circle: no name in the type of a
-/// member with a default, in a table or in a content leads to one. `standing` is what `Names::standing` gives of `names`, and `free` what
+/// member with a default, in a table, in a content or in an argument list, and none of a selection. `standing` is what `Names::standing` gives of `names`, and `free` what
 /// `free_of_circles` gives of both. The work is linear in the names that are followed, but for a search by halves for each.
 ///
 /// # Errors

@@ -1,5 +1,5 @@
 -- The names in a definition that stand where a reference may stand: of a type, a value, a class, an object or an object set; all of
--- them, or those in the types of defaults, in tables and in contents alone.
+-- them, or those in the types of defaults, in tables, in contents and in argument lists, and of selections, alone.
 -- They are more than the references: dummies, items of enumerations and named numbers that are written as a value's name are among
 -- them. No name that may be a reference is left out.
 use Rattle.std.specs.Prelude.{ℕ, List, [], ◌∷◌, ◌++◌, map, Option, Some, None}
@@ -90,7 +90,8 @@ in_default (Some value) w = Every
 
 -- ---- types
 
--- A selection names its CHOICE (X.680 30), a class's field its class (X.681 14); the option and the field are no references.
+-- A selection names its CHOICE (X.680 30), which is always wanted, a class's field its class (X.681 14); the option and the field are no
+-- references.
 abbrev pub type_names : TypeOf NamesOf → NamesOf
 type_names ASN1Type-F.ASN1Type::Null w = []
 type_names (ASN1Type-F.ASN1Type::Boolean t) w = joined t.constraints w
@@ -109,7 +110,7 @@ type_names (ASN1Type-F.ASN1Type::Time t) w = joined t.constraints w
 type_names (ASN1Type-F.GeneralizedTime t) w = joined t.constraints w
 type_names (ASN1Type-F.UTCTime t) w = joined t.constraints w
 type_names (ASN1Type-F.ElsewhereDeclaredType r) w = reference_names r.parent r.identifier r.constraints w
-type_names (ASN1Type-F.ChoiceSelectionType s) w = one_name s.choice_name w
+type_names (ASN1Type-F.ChoiceSelectionType s) w = one_name s.choice_name Every
 type_names (ASN1Type-F.ASN1Type::ObjectIdentifier t) w = joined t.constraints w
 type_names (ASN1Type-F.InformationObjectFieldReference f) w = one_name f.class w ++ joined f.constraints w
 type_names ASN1Type-F.EmbeddedPdv w = []
@@ -197,11 +198,11 @@ fields_names (InformationObjectFields-F.CustomSyntax items) w = joined items w
 
 -- ---- constraints
 
--- The names behind `@` are those of components (X.682 10.7). In a table and in a content every name is wanted.
+-- The names behind `@` are those of components (X.682 10.7). In a table, in an argument list and in a content every name is wanted.
 abbrev pub constraint_names : ConstraintOf NamesOf → NamesOf
 constraint_names (Constraint-F.SubtypeConstraint s) w = s.set w
 constraint_names (Constraint-F.TableConstraint t) w = object_set_names t.object_set Every
-constraint_names (Constraint-F.Parameter arguments) w = joined arguments w
+constraint_names (Constraint-F.Parameter arguments) w = joined arguments Every
 constraint_names (Constraint-F.ContentConstraint content) w = content w
 
 abbrev pub content_names : ContentOf NamesOf → NamesOf
@@ -370,6 +371,6 @@ definition_names (Information d) w = parameter_names d.parameterization w ++ lin
 unfoldable pub references_of : ToplevelDefinition → Names
 references_of d = definition_names d Every
 
--- Those in the types of defaults, in tables and in contents alone.
+-- Those in the types of defaults, in tables, in contents and in argument lists, and those of selections, alone.
 unfoldable pub followed_of : ToplevelDefinition → Names
 followed_of d = definition_names d Followed

@@ -27,7 +27,7 @@ pub(crate) fn add_constraints<'t>(
     Ok(())
 }
 
-/// Adds those of a constraint; of a table every name in its object set.
+/// Adds those of a constraint; of a table every name in its object set, and of an argument list every name in it.
 #[cycle(naming)]
 fn add_constraint<'t>(
     out: &mut List<&'t Text>,
@@ -43,7 +43,9 @@ fn add_constraint<'t>(
             table.object_set.values.as_slice(),
             Wanted::Every,
         ),
-        Constraint::Parameter(arguments) => add_arguments(out, arguments.as_slice(), wanted),
+        Constraint::Parameter(arguments) => {
+            add_arguments(out, arguments.as_slice(), Wanted::Every)
+        }
         Constraint::ContentConstraint(content) => add_content(out, content, wanted),
     }
 }

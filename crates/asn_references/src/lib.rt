@@ -1,7 +1,8 @@
 //! The names in a definition that stand where a reference may stand, of whatever kind.
 //!
 //! It stands on the trees, borrows them, copies no text, and looks no name up. The layer above asks it where a definition may
-//! lead: all names of one, or those in the types of defaults, in tables and in contents alone.
+//! lead: all names of one, or those in the types of defaults, in tables, in contents and in argument lists and of selections
+//! alone.
 #![tactic(auto)]
 
 mod constraints;

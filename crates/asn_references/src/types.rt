@@ -41,7 +41,9 @@ pub(crate) fn add_type<'t>(out: &mut List<&'t Text>, ty: &'t ASN1Type, wanted: W
             name.constraints.as_slice(),
             wanted,
         ),
-        ASN1Type::ChoiceSelectionType(selection) => add_name(out, &selection.choice_name, wanted),
+        ASN1Type::ChoiceSelectionType(selection) => {
+            add_name(out, &selection.choice_name, Wanted::Every)
+        }
         ASN1Type::ObjectIdentifier(ty) => add_constraints(out, ty.constraints.as_slice(), wanted),
         ASN1Type::InformationObjectFieldReference(field) => {
             add_name(out, &field.class, wanted)?;

@@ -11,7 +11,7 @@ use asn_tree::ASN1Value;
 pub(crate) enum Wanted {
     /// Every name that stands where a reference may stand.
     Every,
-    /// Of these the ones in the types of defaults, in tables and in contents.
+    /// Of these the ones in the types of defaults, in tables, in contents and in argument lists, and those of selections.
     Followed,
 }
 
