@@ -5,7 +5,6 @@ use Rattle.asn_tree.specs.Layers.{TypeLayer}
 use Rattle.asn_tree.specs.declared.definitions.ToplevelDefinition.{ToplevelDefinition}
 use Rattle.asn_tree.specs.declared.definitions.ToplevelDefinition.TheVariants.{TypeDef, Value, Information}
 use Rattle.asn_tree.specs.declared.types.ASN1Type.{ASN1Type-F, out-ASN1Type}
-use Rattle.asn_tree.specs.declared.types.SequenceOrSet.{out-SequenceOrSet}
 use Rattle.asn_index.specs.Definitions.{Definitions, last_named}
 use Rattle.asn_references.specs.References.{Names, followed_of, references_of}
 use Rattle.asn_unchanged.specs.Unchanged.{is_unchanged}
@@ -31,12 +30,10 @@ abbrev pub path : Option (List ℕ) → List ℕ → Names
 path None name = name ∷ []
 path (Some object) name = object ∷ name ∷ []
 
--- the names by which it is told what a type is: its own, a path's, that of the class whose field it is, and those behind COMPONENTS OF
+-- the names by which it is told what a type is: its own, a path's, and that of the class whose field it is
 abbrev pub told_by : TypeLayer → Names
 told_by (ASN1Type-F.ElsewhereDeclaredType x) = path x.parent x.identifier
 told_by (ASN1Type-F.InformationObjectFieldReference x) = x.class ∷ []
-told_by (ASN1Type-F.Sequence s) = (out-SequenceOrSet s).components_of
-told_by (ASN1Type-F.Set s) = (out-SequenceOrSet s).components_of
 told_by _ = []
 
 -- The names by which a definition leads on whoever looks for what it stands for: those by which its type is told, and those that it
@@ -66,7 +63,7 @@ FreeAre defs = AllZip (λ x is_free. IsTrue is_free ↔ LeadsToNoCircle defs x)
 
 -- ---- what a definition follows that linking leaves as it is
 
--- No name in the type of a default, in a table, in a content or in an argument list, and none of a selection, leads to a circle.
+-- No name that the definition follows leads to a circle.
 abbrev pub FollowedAreFree : Definitions → ToplevelDefinition → Type 0
 FollowedAreFree defs d = (y : List ℕ) → Contains (followed_of d) y → LeadsToNoCircle defs y
 

@@ -92,7 +92,7 @@ fn circular_nodes(
 
 /// For each of the definitions that stand, in their order, whether it leads to no circle: neither it nor any that it leads to is
 /// circular. A name is circular where linking changes its definition and one of the names by which that leads on is in a circle with it: of a
-/// type its own name, the class of a field, those after COMPONENTS OF, and those that the definition follows (`asn_references::followed`);
+/// type its own name, the class of a field, and those that the definition follows (`asn_references::followed`);
 /// of a template and of a definition of no type every name. `standing` is what `Names::standing` gives of `names`. The work is linear in the names that
 /// definitions mention, but for a search by halves for each, and for names that lead to each other, whose edges may be gone over more
 /// than twice.

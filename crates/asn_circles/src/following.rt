@@ -70,8 +70,8 @@ fn follow_each(
     Ok(told)
 }
 
-/// For each of the definitions that stand, in their order, whether it follows none that leads to a circle: no name in the type of a
-/// member with a default, in a table, in a content or in an argument list, and none of a selection. `standing` is what `Names::standing` gives of `names`, and `free` what
+/// For each of the definitions that stand, in their order, whether it follows none that leads to a circle: no name that `asn_references::followed`
+/// gives of it. `standing` is what `Names::standing` gives of `names`, and `free` what
 /// `free_of_circles` gives of both. The work is linear in the names that are followed, but for a search by halves for each.
 ///
 /// # Errors

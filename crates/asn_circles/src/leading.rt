@@ -10,16 +10,6 @@ use asn_references::{followed, references};
 use asn_tree::{ASN1Type, ToplevelDefinition, ToplevelTypeDefinition};
 use std::alloc::Global;
 
-/// Adds names, in their order.
-fn add_all<'t>(out: &mut List<&'t Text>, names: &'t [Text]) -> Mem<()>
-    ensures { OnOk result (map (λ n. n.now) out.new ≡ map (λ n. n.now) out.old ++ names.now) }
-{
-    for name in names {
-        out.add(name)?;
-    }
-    Ok(())
-}
-
 /// Adds a name, behind that of its object where it has one.
 fn add_path<'t>(out: &mut List<&'t Text>, parent: &'t Option<Text>, name: &'t Text) -> Mem<()>
     ensures { OnOk result (map (λ n. n.now) out.new ≡ map (λ n. n.now) out.old ++ path parent.now name.now) }
@@ -40,8 +30,6 @@ fn add_told_by<'t>(out: &mut List<&'t Text>, ty: &'t ASN1Type) -> Mem<()>
     match ty {
         ASN1Type::ElsewhereDeclaredType(name) => add_path(out, &name.parent, &name.identifier),
         ASN1Type::InformationObjectFieldReference(field) => out.add(&field.class),
-        ASN1Type::Sequence(sequence) => add_all(out, sequence.components_of.as_slice()),
-        ASN1Type::Set(set) => add_all(out, set.components_of.as_slice()),
         ASN1Type::Null
         | ASN1Type::Boolean(_)
         | ASN1Type::Integer(_)
@@ -51,7 +39,9 @@ fn add_told_by<'t>(out: &mut List<&'t Text>, ty: &'t ASN1Type) -> Mem<()>
         | ASN1Type::CharacterString(_)
         | ASN1Type::Enumerated(_)
         | ASN1Type::Choice(_)
+        | ASN1Type::Sequence(_)
         | ASN1Type::SequenceOf(_)
+        | ASN1Type::Set(_)
         | ASN1Type::SetOf(_)
         | ASN1Type::Time(_)
         | ASN1Type::GeneralizedTime(_)

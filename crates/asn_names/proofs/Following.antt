@@ -22,6 +22,10 @@ use Rattle.asn_circles.specs.Circles.{FollowsNoCircle}
 use Rattle.asn_names.specs.Definitions.{Definitions, last_named}
 use Rattle.asn_names.specs.Layers.{ConstraintLayer, ElementLayer, SetLayer, StructLayer, TypeLayer}
 
+none_of : (names : List (List ℕ)) → has_no_names names ≡ true → names ≡ []
+none_of [] h = refl
+none_of (x ∷ names) h = absurd cc
+
 -- names of which none is wanted in itself
 module _ (w : _) (unwanted : (names : List (List ℕ)) → each_name names w ≡ []) where
   -- ---- ranges of numbers
@@ -98,12 +102,12 @@ module _ (w : _) (unwanted : (names : List (List ℕ)) → each_name names w ≡
         ap (λ ns. ns ++ joined (map names_in_member ms) w) (member_none m b.0) ∙ members_none ms b.1
 
     struct_none : (s : StructLayer) → basic_struct f s ≡ true →
-        joined (map names_in_member s.members) w ++ each_name s.components_of w ++ joined (map names_in_constraint s.constraints) w ≡ []
+        joined (map names_in_member s.members) w ++ s.components_of ++ joined (map names_in_constraint s.constraints) w ≡ []
     struct_none s h =
         let b = and_parts (has_no_names s.components_of) (list_all (λ m. basic_member f (out-SequenceOrSetMember m)) s.members && are_basic s.constraints) h in
         let c = and_parts (list_all (λ m. basic_member f (out-SequenceOrSetMember m)) s.members) (are_basic s.constraints) b.1 in
-        ap (λ ns. ns ++ each_name s.components_of w ++ joined (map names_in_constraint s.constraints) w) (members_none s.members c.0)
-        ∙ ap (λ ns. ns ++ joined (map names_in_constraint s.constraints) w) (unwanted s.components_of)
+        ap (λ ns. ns ++ s.components_of ++ joined (map names_in_constraint s.constraints) w) (members_none s.members c.0)
+        ∙ ap (λ ns. ns ++ joined (map names_in_constraint s.constraints) w) (none_of s.components_of b.0)
         ∙ constraints_none s.constraints c.1
 
     name_none : (parent : Option (List ℕ)) → name_in parent w ≡ []

@@ -1,5 +1,5 @@
 -- The names in a definition that stand where a reference may stand: of a type, a value, a class, an object or an object set; all of
--- them, or those in the types of defaults, in tables, in contents and in argument lists, and of selections, alone.
+-- them, or those that are followed alone.
 -- They are more than the references: dummies, items of enumerations and named numbers that are written as a value's name are among
 -- them. No name that may be a reference is left out.
 use Rattle.std.specs.Prelude.{ℕ, List, [], ◌∷◌, ◌++◌, map, Option, Some, None}
@@ -116,9 +116,9 @@ type_names (ASN1Type-F.InformationObjectFieldReference f) w = one_name f.class w
 type_names ASN1Type-F.EmbeddedPdv w = []
 type_names ASN1Type-F.External w = []
 
--- the members first, then the names behind COMPONENTS OF (X.680 25.5)
+-- the members first, then the names behind COMPONENTS OF (X.680 25.5), which are always wanted
 abbrev pub struct_names : StructOf NamesOf → NamesOf
-struct_names s w = joined s.members w ++ each_name s.components_of w ++ joined s.constraints w
+struct_names s w = joined s.members w ++ each_name s.components_of Every ++ joined s.constraints w
 
 abbrev pub member_names : MemberOf NamesOf → NamesOf
 member_names m w = m.ty (in_default m.default_value w) ++ joined m.constraints w ++ present m.default_value w
@@ -227,14 +227,14 @@ operation_names o w = o.base w ++ o.operant w
 abbrev pub component_names : ConstrainedComponentOver NamesOf → NamesOf
 component_names c w = joined c.constraints w
 
--- a pattern, a constraint in words and settings hold no name
+-- In a contained subtype every name is wanted; a pattern, a constraint in words and settings hold none.
 abbrev pub element_names : ElementOf NamesOf → NamesOf
 element_names (SubtypeElement-F.SingleValue v extensible) w = v w
-element_names (SubtypeElement-F.ContainedSubtype ty extensible) w = ty w
+element_names (SubtypeElement-F.ContainedSubtype ty extensible) w = ty Every
 element_names (SubtypeElement-F.ValueRange low high low_open high_open extensible) w = present low w ++ present high w
 element_names (SubtypeElement-F.PermittedAlphabet set) w = set w
 element_names (SubtypeElement-F.SizeConstraint set) w = set w
-element_names (SubtypeElement-F.TypeConstraint ty) w = ty w
+element_names (SubtypeElement-F.TypeConstraint ty) w = ty Every
 element_names (SubtypeElement-F.SingleTypeConstraint cs) w = joined cs w
 element_names (SubtypeElement-F.MultipleTypeConstraints inner) w = joined (map component_names inner.constraints) w
 element_names (SubtypeElement-F.PatternConstraint x) w = []
@@ -371,6 +371,7 @@ definition_names (Information d) w = parameter_names d.parameterization w ++ lin
 unfoldable pub references_of : ToplevelDefinition → Names
 references_of d = definition_names d Every
 
--- Those in the types of defaults, in tables, in contents and in argument lists, and those of selections, alone.
+-- Those in the types of defaults, in tables, in contents, in contained subtypes and in argument lists, and those of selections and behind
+-- COMPONENTS OF, alone.
 unfoldable pub followed_of : ToplevelDefinition → Names
 followed_of d = definition_names d Followed

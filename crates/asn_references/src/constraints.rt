@@ -138,14 +138,14 @@ fn add_element<'t>(out: &mut List<&'t Text>, element: &'t SubtypeElement, wanted
         SubtypeElement::ContainedSubtype {
             subtype,
             extensible: _,
-        } => add_type(out, subtype, wanted),
+        } => add_type(out, subtype, Wanted::Every),
         SubtypeElement::ValueRange { min, max, .. } => {
             add_optional_value(out, min, wanted)?;
             add_optional_value(out, max, wanted)
         }
         SubtypeElement::PermittedAlphabet(set) => add_set(out, set.get(), wanted),
         SubtypeElement::SizeConstraint(set) => add_set(out, set.get(), wanted),
-        SubtypeElement::TypeConstraint(ty) => add_type(out, ty, wanted),
+        SubtypeElement::TypeConstraint(ty) => add_type(out, ty, Wanted::Every),
         SubtypeElement::SingleTypeConstraint(constraints) => {
             add_constraints(out, constraints.as_slice(), wanted)
         }

@@ -187,8 +187,8 @@ pub fn references<'t>(alloc: Global, definition: &'t ToplevelDefinition) -> Mem<
 }
 
 /// Those of these names that stand in the type of a member with a default (X.680 25.1), in a table (X.682 clause 10), in a content
-/// (X.682 clause 11) or in an argument list (X.683 clause 9), and those of selections (X.680 clause 30), in order and as often as they
-/// stand: what a definition follows.
+/// (X.682 clause 11), in a contained subtype (X.680 51.3) or in an argument list (X.683 clause 9), and those of selections (X.680 clause
+/// 30) and behind COMPONENTS OF (X.680 25.5), in order and as often as they stand: what a definition follows.
 ///
 /// # Errors
 ///

@@ -1,8 +1,7 @@
 //! The names in a definition that stand where a reference may stand, of whatever kind.
 //!
 //! It stands on the trees, borrows them, copies no text, and looks no name up. The layer above asks it where a definition may
-//! lead: all names of one, or those in the types of defaults, in tables, in contents and in argument lists and of selections
-//! alone.
+//! lead: all names of one, or those that it follows.
 #![tactic(auto)]
 
 mod constraints;

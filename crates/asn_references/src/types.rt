@@ -104,7 +104,7 @@ fn add_struct<'t>(out: &mut List<&'t Text>, layer: &'t SequenceOrSet, wanted: Wa
     ensures { OnOk result (map (λ n. n.now) out.new ≡ map (λ n. n.now) out.old ++ names_in_struct layer.now wanted) }
 {
     add_members(out, layer.members.as_slice(), wanted)?;
-    add_names(out, layer.components_of.as_slice(), wanted)?;
+    add_names(out, layer.components_of.as_slice(), Wanted::Every)?;
     add_constraints(out, layer.constraints.as_slice(), wanted)
 }
 

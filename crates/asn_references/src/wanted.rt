@@ -11,7 +11,8 @@ use asn_tree::ASN1Value;
 pub(crate) enum Wanted {
     /// Every name that stands where a reference may stand.
     Every,
-    /// Of these the ones in the types of defaults, in tables, in contents and in argument lists, and those of selections.
+    /// Of these the ones in the types of defaults, in tables, in contents, in contained subtypes and in argument lists, and those of
+    /// selections and behind COMPONENTS OF.
     Followed,
 }
 
