@@ -194,7 +194,7 @@ if $is_build; then
 fi
 [ ! -t 0 ] || say "the text is read from this terminal, to its end (Ctrl-D)"
 if is_built; then
-    # Types of 4,096 levels take up to 32 MB of the stack, and 8 MB are usual.
+    # Types of 4,096 levels fit in 32 MB of stack, and 8 MB are usual.
     ulimit -S -s 65536 2> /dev/null
     exec "$program" "$@"
 fi
