@@ -3,17 +3,19 @@
 
 Each text has five types, two templates, two values, a class, an object and an object set, whose names stand in all kinds of places; the
 number of a text makes it. It prints each text that ends with a status beside 0, 1 and 2, or takes longer than a minute, and how many
-ended with each: no such text should be want of memory or stack.
+ended with each: no such text should be want of memory or stack. The program is given the stack that link.sh asks for.
 """
 
 import collections
 import random
+import resource
 import subprocess
 import sys
 
 TYPES = "ABCDE"
 VALUES = "vw"
 SECONDS = 60
+STACK = 64 * 1024 * 1024
 
 
 class Maker:
@@ -101,6 +103,7 @@ def main():
     if len(sys.argv) != 4:
         sys.exit("usage: circles.py PROGRAM FIRST COUNT")
     program, first, count = sys.argv[1], int(sys.argv[2]), int(sys.argv[3])
+    resource.setrlimit(resource.RLIMIT_STACK, (STACK, resource.getrlimit(resource.RLIMIT_STACK)[1]))
     ended = collections.Counter()
     for number in range(first, first + count):
         text = Maker(number).text()
