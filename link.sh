@@ -194,8 +194,11 @@ if $is_build; then
 fi
 [ ! -t 0 ] || say "the text is read from this terminal, to its end (Ctrl-D)"
 if is_built; then
-    # Types of 4,096 levels fit in 32 MB of stack, and 8 MB are usual.
-    ulimit -S -s 65536 2> /dev/null
+    # What was tried of types 4,096 levels deep fit in 32 MB of stack, and 8 MB are usual.
+    stack=$(ulimit -S -s)
+    if [ "$stack" != unlimited ] && [ "$stack" -lt 65536 ] && ! ulimit -S -s 65536 2> /dev/null; then
+        say "there are $stack KB of stack and no more: types that lie deep in each other may end the program"
+    fi
     exec "$program" "$@"
 fi
 why="no program is built"
