@@ -84,11 +84,11 @@ objects_told marker [] = refl
 objects_told marker (Reference name ∷ items) = ap (λ xs. one_name name ∷ xs) (objects_told marker items)
 objects_told marker (Inline fields ∷ items) = ap (λ xs. names_in_fields fields ∷ xs) (objects_told marker items)
 
-pub argument_of_objects : (v : Parameter) (s : ObjectSet) (w : Wanted) → v ≡ parameter.ObjectSetParameter s → names_in_argument v w ≡ names_in_objects s.values w
+pub argument_of_objects : (v : Parameter) (s : ObjectSet) (w : Wanted) → v ≡ parameter.ObjectSetParameter s → names_in_argument v w ≡ names_in_objects s.values Every
 argument_of_objects v s w e =
     ap (λ f. f w) (parameter_is naming v)
     ∙ ap (λ o. argument_names (parameter_read naming o) w) (ap out-Parameter e ∙ parameter.outs-ObjectSetParameter s)
-    ∙ ap (λ ns. joined ns w) (objects_told s.extensible s.values)
+    ∙ ap (λ ns. joined ns Every) (objects_told s.extensible s.values)
 
 pub item_of_objects : (v : SyntaxApplication) (s : ObjectSet) (w : Wanted) → v ≡ item.ObjectSetDeclaration s → names_in_item v w ≡ names_in_objects s.values w
 item_of_objects v s w e =

@@ -1,5 +1,5 @@
 -- The names in a definition that stand where a reference may stand: of a type, a value, a class, an object or an object set; all of
--- them, or those that are followed alone.
+-- them, those that are followed alone, or those that are asked for.
 -- They are more than the references: dummies, items of enumerations and named numbers that are written as a value's name are among
 -- them. No name that may be a reference is left out.
 use Rattle.std.specs.Prelude.{ℕ, List, [], ◌∷◌, ◌++◌, map, Option, Some, None}
@@ -42,7 +42,7 @@ use Rattle.asn_tree.specs.declared.types.SequenceOrSetOf.{SequenceOrSetOf}
 use Rattle.asn_tree.specs.declared.values.ASN1Value.{ASN1Value, ASN1Value-F}
 use Rattle.asn_tree.specs.declared.values.LinkedField.{LinkedField}
 use Rattle.asn_references.specs.declared.wanted.Wanted.{Wanted}
-use Rattle.asn_references.specs.declared.wanted.Wanted.TheVariants.{Every, Followed}
+use Rattle.asn_references.specs.declared.wanted.Wanted.TheVariants.{Every, Followed, Asked}
 
 abbrev pub Names : Type 0
 Names = List (List ℕ)
@@ -51,10 +51,11 @@ Names = List (List ℕ)
 abbrev pub NamesOf : Type 0
 NamesOf = Wanted → Names
 
--- the names where every one is wanted; where those of defaults, tables and contents are, none
+-- the names where every one is wanted; else none
 abbrev pub each_name : Names → NamesOf
 each_name names Every = names
 each_name names Followed = []
+each_name names Asked = []
 
 -- a name
 abbrev pub one_name : List ℕ → NamesOf
@@ -88,6 +89,18 @@ abbrev pub in_default : Option NamesOf → Wanted → Wanted
 in_default None w = w
 in_default (Some value) w = Every
 
+-- in an argument list too; where those are wanted that are asked for, so are they in the types there
+abbrev pub in_arguments : Wanted → Wanted
+in_arguments Every = Every
+in_arguments Followed = Every
+in_arguments Asked = Asked
+
+-- the class of a field is asked for
+abbrev pub of_class : Wanted → Wanted
+of_class Every = Every
+of_class Followed = Followed
+of_class Asked = Every
+
 -- ---- types
 
 -- A selection names its CHOICE (X.680 30), which is always wanted, a class's field its class (X.681 14); the option and the field are no
@@ -112,7 +125,7 @@ type_names (ASN1Type-F.UTCTime t) w = joined t.constraints w
 type_names (ASN1Type-F.ElsewhereDeclaredType r) w = reference_names r.parent r.identifier r.constraints w
 type_names (ASN1Type-F.ChoiceSelectionType s) w = one_name s.choice_name Every
 type_names (ASN1Type-F.ASN1Type::ObjectIdentifier t) w = joined t.constraints w
-type_names (ASN1Type-F.InformationObjectFieldReference f) w = one_name f.class w ++ joined f.constraints w
+type_names (ASN1Type-F.InformationObjectFieldReference f) w = one_name f.class (of_class w) ++ joined f.constraints w
 type_names ASN1Type-F.EmbeddedPdv w = []
 type_names ASN1Type-F.External w = []
 
@@ -198,11 +211,11 @@ fields_names (InformationObjectFields-F.CustomSyntax items) w = joined items w
 
 -- ---- constraints
 
--- The names behind `@` are those of components (X.682 10.7). In a table, in an argument list and in a content every name is wanted.
+-- The names behind `@` are those of components (X.682 10.7). In a table and in a content every name is wanted.
 abbrev pub constraint_names : ConstraintOf NamesOf → NamesOf
 constraint_names (Constraint-F.SubtypeConstraint s) w = s.set w
 constraint_names (Constraint-F.TableConstraint t) w = object_set_names t.object_set Every
-constraint_names (Constraint-F.Parameter arguments) w = joined arguments Every
+constraint_names (Constraint-F.Parameter arguments) w = joined arguments (in_arguments w)
 constraint_names (Constraint-F.ContentConstraint content) w = content w
 
 abbrev pub content_names : ContentOf NamesOf → NamesOf
@@ -210,11 +223,12 @@ content_names (ContentConstraint-F.Containing ty) w = ty Every
 content_names (ContentConstraint-F.EncodedBy rules) w = rules Every
 content_names (ContentConstraint-F.ContainingEncodedBy ty rules) w = ty Every ++ rules Every
 
+-- In an argument that is no type every name is wanted.
 abbrev pub argument_names : ParameterOf NamesOf → NamesOf
-argument_names (Parameter-F.ValueParameter v) w = v w
+argument_names (Parameter-F.ValueParameter v) w = v Every
 argument_names (Parameter-F.TypeParameter ty) w = ty w
-argument_names (Parameter-F.InformationObjectParameter fields) w = fields w
-argument_names (Parameter-F.ObjectSetParameter s) w = object_set_names s w
+argument_names (Parameter-F.InformationObjectParameter fields) w = fields Every
+argument_names (Parameter-F.ObjectSetParameter s) w = object_set_names s Every
 
 abbrev pub set_names : SetOf NamesOf → NamesOf
 set_names (ElementOrSetOperation-F.Element e) w = e w
@@ -375,3 +389,8 @@ references_of d = definition_names d Every
 -- COMPONENTS OF, alone.
 unfoldable pub followed_of : ToplevelDefinition → Names
 followed_of d = definition_names d Followed
+
+-- Those that are asked for where each argument that is a type is merely put in: as they are followed, but that such an argument is
+-- gone through as a part is; and the classes of fields.
+unfoldable pub asked_of : ToplevelDefinition → Names
+asked_of d = definition_names d Asked

@@ -6,7 +6,7 @@ ghost use Rattle.std.specs.Prelude.{◌≡◌, ◌++◌, OnOk, map};
 use crate::objects::{add_fields, add_objects};
 use crate::types::add_type;
 use crate::values::{add_optional_value, add_value};
-use crate::wanted::Wanted;
+use crate::wanted::{Wanted, in_arguments};
 use asn_memory::{List, Mem, Text};
 use asn_tree::{
     Constraint, ContentConstraint, ElementOrSetOperation, Parameter, SetOperation, SubtypeElement,
@@ -27,7 +27,7 @@ pub(crate) fn add_constraints<'t>(
     Ok(())
 }
 
-/// Adds those of a constraint; of a table every name in its object set, and of an argument list every name in it.
+/// Adds those of a constraint; of a table every name in its object set.
 #[cycle(naming)]
 fn add_constraint<'t>(
     out: &mut List<&'t Text>,
@@ -44,7 +44,7 @@ fn add_constraint<'t>(
             Wanted::Every,
         ),
         Constraint::Parameter(arguments) => {
-            add_arguments(out, arguments.as_slice(), Wanted::Every)
+            add_arguments(out, arguments.as_slice(), in_arguments(wanted))
         }
         Constraint::ContentConstraint(content) => add_content(out, content, wanted),
     }
@@ -87,16 +87,18 @@ fn add_arguments<'t>(
     Ok(())
 }
 
-/// Adds those of an argument.
+/// Adds those of an argument; of one that is no type every name.
 #[cycle(naming)]
 fn add_argument<'t>(out: &mut List<&'t Text>, argument: &'t Parameter, wanted: Wanted) -> Mem<()>
     ensures { OnOk result (map (λ n. n.now) out.new ≡ map (λ n. n.now) out.old ++ names_in_argument argument.now wanted) }
 {
     match argument {
-        Parameter::ValueParameter(value) => add_value(out, value, wanted),
+        Parameter::ValueParameter(value) => add_value(out, value, Wanted::Every),
         Parameter::TypeParameter(ty) => add_type(out, ty, wanted),
-        Parameter::InformationObjectParameter(fields) => add_fields(out, fields, wanted),
-        Parameter::ObjectSetParameter(set) => add_objects(out, set.values.as_slice(), wanted),
+        Parameter::InformationObjectParameter(fields) => add_fields(out, fields, Wanted::Every),
+        Parameter::ObjectSetParameter(set) => {
+            add_objects(out, set.values.as_slice(), Wanted::Every)
+        }
     }
 }
 

@@ -1,6 +1,6 @@
 //! The names in definitions (X.680 clause 16, X.681 clauses 9 to 12), with the governors of dummies (X.683 8.3).
 
-ghost use Rattle.asn_references.specs.References.{class_field_names, class_names, definition_names, dummy_names, followed_of, governor_names, information_names, joined, link_names, names_in, parameter_names, present, references_of};
+ghost use Rattle.asn_references.specs.References.{asked_of, class_field_names, class_names, definition_names, dummy_names, followed_of, governor_names, information_names, joined, link_names, names_in, parameter_names, present, references_of};
 ghost use Rattle.std.specs.Option.{option_map};
 ghost use Rattle.std.specs.Prelude.{◌≡◌, ◌++◌, IfOk, OnOk, map};
 
@@ -199,5 +199,21 @@ pub fn followed<'t>(alloc: Global, definition: &'t ToplevelDefinition) -> Mem<Li
 {
     let mut names = List::new(alloc);
     add_definition(&mut names, definition, Wanted::Followed)?;
+    Ok(names)
+}
+
+/// Those of these names that whoever makes an instance of the definition's type asks for, where each argument that is a type is merely put
+/// in: as `followed` gives them, but in an argument that is a type only those that are asked for there; and the class of a field (X.681
+/// clause 14), in order and as often as they stand.
+///
+/// # Errors
+///
+/// Want of memory alone.
+#[tactic(auto, unfolding(crate::specs::References::asked_of))]
+pub fn asked<'t>(alloc: Global, definition: &'t ToplevelDefinition) -> Mem<List<&'t Text>>
+    ensures { IfOk result (λ names. map (λ n. n.now) names ≡ asked_of definition.now) }
+{
+    let mut names = List::new(alloc);
+    add_definition(&mut names, definition, Wanted::Asked)?;
     Ok(names)
 }

@@ -13,7 +13,7 @@ pub(crate) fn add_name<'t>(out: &mut List<&'t Text>, name: &'t Text, wanted: Wan
 {
     match wanted {
         Wanted::Every => out.add(name),
-        Wanted::Followed => Ok(()),
+        Wanted::Followed | Wanted::Asked => Ok(()),
     }
 }
 
@@ -33,7 +33,7 @@ pub(crate) fn add_names<'t>(out: &mut List<&'t Text>, names: &'t [Text], wanted:
 {
     match wanted {
         Wanted::Every => add_all(out, names),
-        Wanted::Followed => Ok(()),
+        Wanted::Followed | Wanted::Asked => Ok(()),
     }
 }
 

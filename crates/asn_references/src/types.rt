@@ -6,7 +6,7 @@ ghost use Rattle.std.specs.Prelude.{◌≡◌, ◌++◌, OnOk, map};
 use crate::constraints::add_constraints;
 use crate::names::{add_name, add_names, add_path};
 use crate::values::add_optional_value;
-use crate::wanted::{Wanted, in_default};
+use crate::wanted::{Wanted, in_default, of_class};
 use asn_memory::{List, Mem, Text};
 use asn_tree::{
     ASN1Type, Choice, ChoiceOption, Constraint, SequenceOrSet, SequenceOrSetMember, SequenceOrSetOf,
@@ -46,7 +46,7 @@ pub(crate) fn add_type<'t>(out: &mut List<&'t Text>, ty: &'t ASN1Type, wanted: W
         }
         ASN1Type::ObjectIdentifier(ty) => add_constraints(out, ty.constraints.as_slice(), wanted),
         ASN1Type::InformationObjectFieldReference(field) => {
-            add_name(out, &field.class, wanted)?;
+            add_name(out, &field.class, of_class(wanted))?;
             add_constraints(out, field.constraints.as_slice(), wanted)
         }
         ASN1Type::EmbeddedPdv => Ok(()),
