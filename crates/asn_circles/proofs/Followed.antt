@@ -1,36 +1,20 @@
 -- What is told of the names that a definition follows.
-use Rattle.std.proofs.Common.{◌≡◌, ℕ, zero, suc, ◌+◌, ◌<◌, ◌≤◌, ◌⊎◌, ◌↔◌, inl, inr, Bool, true, false, Option, Some, None}
+use Rattle.std.proofs.Common.{◌≡◌, ℕ, zero, suc, ◌+◌, ◌<◌, ◌⊎◌, ◌↔◌, inl, inr, Bool, true, false, Option, Some, None}
 use Rattle.std.proofs.Common.{List, [], ◌∷◌, ◌++◌, length, map, get_or, take, refl, sym, ap, ◌∙◌, subst, arith}
 use Rattle.std.specs.Prelude.{Contains, is_some}
 use Rattle.std.specs.List.{AllZip}
-use Rattle.std.proofs.lemmas.Bool.{cases_lt}
-use Rattle.std.proofs.lemmas.List.{get_or-map, get_or_append_left, get_or_push, length-map, map_more}
+use Rattle.std.proofs.lemmas.List.{get_or-map, map_more}
 use Rattle.std.proofs.lemmas.List.Elements.{Contains-append_cases}
 use Rattle.asn_tree.specs.declared.definitions.ToplevelDefinition.{ToplevelDefinition}
-use Rattle.asn_graph.specs.Graphs.{AreOneComponent, Edges as Graph}
 use Rattle.asn_index.specs.Definitions.{Definitions, IsStanding, last_named, name_of}
-use Rattle.asn_circles.specs.Circles.{FollowedAreFree, FollowersAre, FreeAre, Leads, at_once, further, LeadsToNoCircle}
-use Rattle.asn_name_graph.specs.Drawn.{Ascend, StandsAt}
-use Rattle.asn_circles.specs.inner.Nodes.{AreCircular, IsAnyBack, IsBack, IsCircularAt}
+use Rattle.asn_circles.specs.Circles.{FollowedAreFree, FollowersAre, FreeAre, Leads, LeadsToNoCircle, Refers, at_once, further}
+use Rattle.asn_name_graph.specs.Drawn.{StandsAt}
 use Rattle.asn_circles.specs.inner.Followed.{AreAllFree, AreTold, FollowEach}
 use Rattle.asn_name_graph.proofs.Added.{none_contained, one_contained}
-use Rattle.asn_circles.proofs.Needed.{names_ascend, names_through}
-use Rattle.asn_name_graph.proofs.Ascending.{one_place}
+use Rattle.asn_circles.proofs.Needed.{names_ascend, names_through, same_some, zip_at, zip_long}
 use Rattle.asn_name_graph.proofs.Standing.{has_name, stands_for}
 
 -- ---- one name
-
-zip_at : {A B : Type 0} (R : A → B → Type 0) (xs : List A) (ys : List B) (i : ℕ) (a : A) (b : B) → AllZip R xs ys → i < length xs → R (get_or xs i a) (get_or ys i b)
-zip_at R [] ys i a b all h = absurd (omega (arith, h))
-zip_at R (x ∷ xs) [] i a b all h = absurd all
-zip_at R (x ∷ xs) (y ∷ ys) zero a b all h = all.0
-zip_at R (x ∷ xs) (y ∷ ys) (suc i) a b all h = zip_at R xs ys i a b all.1 (omega (arith, h))
-
-zip_long : {A B : Type 0} (R : A → B → Type 0) (xs : List A) (ys : List B) → AllZip R xs ys → length xs ≡ length ys
-zip_long R [] [] all = refl
-zip_long R [] (y ∷ ys) all = absurd all
-zip_long R (x ∷ xs) [] all = absurd all
-zip_long R (x ∷ xs) (y ∷ ys) all = ap suc (zip_long R xs ys all.1)
 
 module _ (defs : Definitions) (names : List (List ℕ)) (free : List Bool) (are : AreTold defs names free) where
   pub within_free : (name : List ℕ) (place : ℕ) → StandsAt names name place → place < length free
@@ -45,7 +29,7 @@ module _ (defs : Definitions) (names : List (List ℕ)) (free : List Bool) (are 
       (zip_at (λ x b. (b ≡ true) ↔ LeadsToNoCircle defs x) names free place [] false are.told s.within)
 
 -- what a name leads to begins at its definition
-leads_defined : (defs : Definitions) (x : List ℕ) {y : List ℕ} → Leads defs x y → is_some (last_named defs x) ≡ true
+leads_defined : (defs : Definitions) (x : List ℕ) {y : List ℕ} → Leads (Refers defs) x y → is_some (last_named defs x) ≡ true
 leads_defined defs x (at_once r) = ap is_some r.stands
 leads_defined defs x (further l r) = leads_defined defs x l
 
@@ -53,7 +37,7 @@ leads_defined defs x (further l r) = leads_defined defs x l
 pub undefined_free : (defs : Definitions) (names : List (List ℕ)) (free : List Bool) (name : List ℕ) → AreTold defs names free →
     ((place : ℕ) → StandsAt names name place → ⊥) → LeadsToNoCircle defs name
 undefined_free defs names free name are absent =
-    let none = λ (y : List ℕ) (l : Leads defs name y). (let p = are.complete name (leads_defined defs name l) in absent p.0 p.1) in
+    let none = λ (y : List ℕ) (l : Leads (Refers defs) name y). (let p = are.complete name (leads_defined defs name l) in absent p.0 p.1) in
     record { itself = λ c. (let p = are.complete name (ap is_some c.stands) in absent p.0 p.1); others = λ y l c. none y l }
 
 -- ---- several names
@@ -98,9 +82,6 @@ followers_named defs (d ∷ ds) (b ∷ told) stand all = (
   (λ t e is. subst (FollowedAreFree defs) (same_some d e (sym (stand 0 d (omega arith)) ∙ is)) (all.0.0 t), λ f. all.0.1 (f d (stand 0 d (omega arith)))),
   followers_named defs ds told (λ i x h. stand (suc i) x (omega (arith, h))) all.1,
 )
-  where
-    same_some : (d e : ToplevelDefinition) → Some d ≡ Some e → d ≡ e
-    same_some d e h = cc
 
 module _ {X : Type 0} (f : X → ToplevelDefinition) (defs : Definitions) (xs : List X) (standing : IsStanding defs (map f xs)) where
   stand_for : (i : ℕ) (d : ToplevelDefinition) → i < length (map f xs) → last_named defs (name_of (get_or (map f xs) i d)) ≡ Some (get_or (map f xs) i d)
@@ -145,70 +126,3 @@ follow_more f defs xs i x told new b h is same all one =
     let next : map f (take i xs) ++ f x ∷ [] ≡ map f (take (i + 1) xs) = ap (λ z. map f (take i xs) ++ f z ∷ []) is ∙ sym (map_more f xs i x h) in
     subst (λ bs. FollowEach defs (map f (take (i + 1) xs)) bs) (sym same)
     (subst (λ ds. FollowEach defs ds (told ++ b ∷ [])) next (zip_push (λ d is_free. (is_free ≡ true) ↔ FollowedAreFree defs d) (map f (take i xs)) told (f x) b all one))
-
--- ---- circular definitions
-
-module _ (g : Graph) (names : List (List ℕ)) (x : ℕ) where
-  -- the place of a name is a node
-  pub node_there : (name : List ℕ) (place : ℕ) → StandsAt names name place → length names + 1 ≡ length g.starts → place + 1 < length g.starts
-  node_there name place s long = let h : place < length names = s.within in omega (arith, h, long)
-
-  -- a name stands at one place alone
-  pub back_there : (name : List ℕ) (place : ℕ) → Ascend names → StandsAt names name place → IsBack g names x name → AreOneComponent g x place
-  back_there name place up s b = subst (AreOneComponent g x) (one_place names b.node place up b.stands.within s.within (b.stands.is ∙ sym s.is)) b.one
-
-  pub none_back : IsAnyBack g names x [] → ⊥
-  none_back b = none_contained b.name b.among
-
-  pub more_back : {Y : Type 0} (f : Y → List ℕ) (ys : List Y) (i : ℕ) (y : Y) → i < length ys → y ≡ get_or ys i y →
-      (IsAnyBack g names x (map f (take i ys)) → ⊥) → (IsBack g names x (f y) → ⊥) → IsAnyBack g names x (map f (take (i + 1) ys)) → ⊥
-  more_back f ys i y h is before here b =
-      let next : map f (take i ys) ++ f y ∷ [] ≡ map f (take (i + 1) ys) = ap (λ z. map f (take i ys) ++ f z ∷ []) is ∙ sym (map_more f ys i y h) in
-      go (Contains-append_cases (map f (take i ys)) (f y ∷ []) b.name (subst (λ ns. Contains ns b.name) (sym next) b.among))
-    where
-      go : Contains (map f (take i ys)) b.name ⊎ Contains (f y ∷ []) b.name → ⊥
-      go (inl c) = before (record { name = b.name; among = c; back = b.back })
-      go (inr c) = here (subst (IsBack g names x) (sym (one_contained (f y) b.name c)) b.back)
-
-  pub found_back : {Y : Type 0} (f : Y → List ℕ) (ys : List Y) (i : ℕ) (y : Y) → i < length ys → y ≡ get_or ys i y → IsBack g names x (f y) → IsAnyBack g names x (map f ys)
-  found_back f ys i y h is b = record { name = f y; among = among f ys i y h is; back = b }
-
-module _ {X : Type 0} (f : X → ToplevelDefinition) (g : Graph) (names : List (List ℕ)) (xs : List X) where
-  -- this of the nodes so far
-  abbrev pub CircularSoFar : List Bool → ℕ → Type 0
-  CircularSoFar marked i = (x : ℕ) (d : ToplevelDefinition) → x < i → ((get_or marked x false ≡ true) ↔ IsCircularAt g names x (get_or (map f xs) x d))
-
-  pub circular_more : (marked new : List Bool) (i : ℕ) (x : X) (b : Bool) → length marked ≡ i → i < length xs → x ≡ get_or xs i x → new ≡ marked ++ b ∷ [] →
-      ((b ≡ true) ↔ IsCircularAt g names i (f x)) → CircularSoFar marked i → CircularSoFar new (i + 1)
-  circular_more marked new i x b long h is same told before y d k =
-      subst (λ bs. (get_or bs y false ≡ true) ↔ IsCircularAt g names y (get_or (map f xs) y d)) (sym same) (go (cases_lt y i))
-    where
-      there : (e : i ≡ y) → get_or (map f xs) y d ≡ f x
-      there e = ap (λ j. get_or (map f xs) j d) (sym e) ∙ get_or-map f xs i x d h ∙ ap f (sym is)
-
-      here : (e : i ≡ y) → (b ≡ true) ↔ IsCircularAt g names y (get_or (map f xs) y d)
-      here e = subst (λ z. (b ≡ true) ↔ IsCircularAt g names y z) (sym (there e)) (subst (λ j. (b ≡ true) ↔ IsCircularAt g names j (f x)) e told)
-
-      go : (y < i) ⊎ (i ≤ y) → (get_or (marked ++ b ∷ []) y false ≡ true) ↔ IsCircularAt g names y (get_or (map f xs) y d)
-      go (inl l) = subst (λ c. (c ≡ true) ↔ IsCircularAt g names y (get_or (map f xs) y d)) (sym (get_or_append_left marked (b ∷ []) false y (omega (arith, long, l)))) (before y d l)
-      go (inr l) =
-          let e : i ≡ y = omega (arith, k, l) in
-          subst (λ c. (c ≡ true) ↔ IsCircularAt g names y (get_or (map f xs) y d)) (sym (get_or_push marked b false y (long ∙ e))) (here e)
-
-  pub circular_all : (marked : List Bool) (i : ℕ) → length marked ≡ i → length xs ≡ i → names ≡ map name_of (map f xs) → CircularSoFar marked i → AreCircular g (map f xs) marked
-  circular_all marked i long all named told =
-      let l : length (map f xs) ≡ length xs = length-map xs f in
-      record {
-        long = omega (arith, long, all, l);
-        each = λ x d h. subst (λ ns. (get_or marked x false ≡ true) ↔ IsCircularAt g ns x (get_or (map f xs) x d)) named (told x d (omega (arith, h, all, l)));
-      }
-
--- names of definitions are as many as these
-pub as_long : {X Y : Type 0} (n : X → List ℕ) (f : Y → ToplevelDefinition) (names : List X) (ys : List Y) (g : Graph) → map n names ≡ map name_of (map f ys) → length ys + 1 ≡ length g.starts →
-    length names + 1 ≡ length g.starts
-as_long n f names ys g is long =
-    let a : length (map n names) ≡ length names = length-map names n in
-    let b : length (map name_of (map f ys)) ≡ length (map f ys) = length-map (map f ys) name_of in
-    let c : length (map f ys) ≡ length ys = length-map ys f in
-    let d : length (map n names) ≡ length (map name_of (map f ys)) = ap length is in
-    omega (arith, a, b, c, d, long)

@@ -1,65 +1,149 @@
--- Which definitions lead to no circle of names by which one of them leads on.
-use Rattle.std.specs.Prelude.{◌≡◌, ◌↔◌, ◌⊎◌, ℕ, List, [], ◌∷◌, ◌++◌, Bool, false, Contains, IsSome, IsTrue, Option, Some, None, is_some, if◌then◌else◌}
-use Rattle.std.specs.List.{AllZip}
+-- Which definitions lead to no circle of names that counts.
+use Rattle.std.specs.Prelude.{◌≡◌, ◌↔◌, ◌⊎◌, ℕ, List, [], ◌∷◌, ◌++◌, Bool, false, true, Contains, IsSome, IsTrue, Option, Some, None, filter, is_some, if◌then◌else◌}
+use Rattle.std.specs.List.{AllZip, list_any}
+use Rattle.std.specs.Str.{bytes_eq}
 use Rattle.asn_tree.specs.Layers.{TypeLayer}
+use Rattle.asn_tree.specs.declared.definitions.ParameterGovernor.{ParameterGovernor}
+use Rattle.asn_tree.specs.declared.definitions.ParameterGovernor.TheVariants as governor
+use Rattle.asn_tree.specs.declared.definitions.Parameterization.{Parameterization}
+use Rattle.asn_tree.specs.declared.definitions.ParameterizationArgument.{ParameterizationArgument}
 use Rattle.asn_tree.specs.declared.definitions.ToplevelDefinition.{ToplevelDefinition}
 use Rattle.asn_tree.specs.declared.definitions.ToplevelDefinition.TheVariants.{TypeDef, Value, Information}
 use Rattle.asn_tree.specs.declared.types.ASN1Type.{ASN1Type-F, out-ASN1Type}
 use Rattle.asn_index.specs.Definitions.{Definitions, last_named}
-use Rattle.asn_references.specs.References.{Names, followed_of, references_of}
+use Rattle.asn_references.specs.References.{Names, asked_of, followed_of, references_of}
 use Rattle.asn_unchanged.specs.Unchanged.{is_unchanged}
 
--- x refers to y: y is among the references of the definition that stands for x, and has a definition itself
-pub record Refers (defs : Definitions) (x y : List ℕ) : Type 0 where
+-- ---- what leads where
+
+-- from x one comes to y, in one step or more
+pub data Leads (Step : List ℕ → List ℕ → Type 0) (x : List ℕ) : List ℕ → Type 0 where
+  at_once : {y : List ℕ} → Step x y → Leads Step x y
+  further : {y z : List ℕ} → Leads Step x y → Step y z → Leads Step x z
+
+-- neither x nor what one comes to from it is such
+pub record LeadsToNone (Step : List ℕ → List ℕ → Type 0) (IsSuch : List ℕ → Type 0) (x : List ℕ) : Type 0 where
+  pub itself : IsSuch x → ⊥
+  pub others : (y : List ℕ) → Leads Step x y → IsSuch y → ⊥
+
+-- what names stand in a definition, by its name
+abbrev pub Told : Type 1
+Told = List ℕ → ToplevelDefinition → Names → Type 0
+
+-- from x one comes to y at once: y is among these names of the definition that stands for x, and has a definition itself
+pub record Goes (Are : Told) (defs : Definitions) (x y : List ℕ) : Type 0 where
   pub definition : ToplevelDefinition
   pub stands : last_named defs x ≡ Some definition
-  pub mentions : Contains (references_of definition) y
+  pub names : Names
+  pub are : Are x definition names
+  pub among : Contains names y
   pub defined : IsSome (last_named defs y)
 
--- x leads to y: it refers to y, or leads to what refers to y
-pub data Leads (defs : Definitions) (x : List ℕ) : List ℕ → Type 0 where
-  at_once : {y : List ℕ} → Refers defs x y → Leads defs x y
-  further : {y z : List ℕ} → Leads defs x y → Refers defs y z → Leads defs x z
+-- for each name in its turn, whether it is such
+abbrev pub EachTold : (List ℕ → Type 0) → List (List ℕ) → List Bool → Type 0
+EachTold IsSuch = AllZip (λ x told. IsTrue told ↔ IsSuch x)
 
--- x and y are in one circle: they are one name, or each leads to the other
-abbrev pub AreOneCircle : Definitions → List ℕ → List ℕ → Type 0
-AreOneCircle defs x y = (x ≡ y) ⊎ (Leads defs x y × Leads defs y x)
+-- x refers to y
+abbrev pub Refers : Definitions → List ℕ → List ℕ → Type 0
+Refers = Goes (λ x d names. names ≡ references_of d)
+
+-- ---- templates
+
+abbrev pub parameters_of : ToplevelDefinition → Option Parameterization
+parameters_of (TypeDef d) = d.parameterization
+parameters_of (Value d) = d.parameterization
+parameters_of (Information d) = d.parameterization
+
+abbrev pub is_template : Option ToplevelDefinition → Bool
+is_template None = false
+is_template (Some d) = is_some (parameters_of d)
+
+-- those of the names that stand for templates
+abbrev pub templates_among : Definitions → Names → Names
+templates_among defs names = filter (λ name. is_template (last_named defs name)) names
+
+-- x refers to y, which is a template
+abbrev pub RefersToTemplate : Definitions → List ℕ → List ℕ → Type 0
+RefersToTemplate defs = Goes (λ x d names. names ≡ templates_among defs (references_of d)) defs
 
 -- a name, behind that of its object where it has one
 abbrev pub path : Option (List ℕ) → List ℕ → Names
 path None name = name ∷ []
 path (Some object) name = object ∷ name ∷ []
 
--- the names by which it is told what a type is: its own, a path's, and that of the class whose field it is
-abbrev pub told_by : TypeLayer → Names
-told_by (ASN1Type-F.ElsewhereDeclaredType x) = path x.parent x.identifier
-told_by (ASN1Type-F.InformationObjectFieldReference x) = x.class ∷ []
-told_by _ = []
+-- the name that a type is, which tells what it is
+abbrev pub own_name : TypeLayer → Names
+own_name (ASN1Type-F.ElsewhereDeclaredType x) = path x.parent x.identifier
+own_name _ = []
 
--- The names by which a definition leads on whoever looks for what it stands for: those by which its type is told, and those that it
--- follows; of a template and of a definition of no type every name.
-abbrev pub leading : ToplevelDefinition → Names
-leading (TypeDef d) = if is_some d.parameterization then references_of (TypeDef d) else told_by (out-ASN1Type d.ty) ++ followed_of (TypeDef d)
-leading (Value d) = references_of (Value d)
-leading (Information d) = references_of (Information d)
+-- The names that whoever looks for what a definition stands for goes on to: the one that its type is, and those that are asked for in
+-- it; of a definition of no type every name.
+abbrev pub entered : ToplevelDefinition → Names
+entered (TypeDef d) = own_name (out-ASN1Type d.ty) ++ asked_of (TypeDef d)
+entered (Value d) = references_of (Value d)
+entered (Information d) = references_of (Information d)
 
--- x is circular: linking changes the definition that stands for it, and a name by which that leads on is in one circle with x
+-- Such a dummy has no governor: it stands for a type or a class (X.683 8.3).
+abbrev pub is_ungoverned : ParameterGovernor → Bool
+is_ungoverned governor.None = true
+is_ungoverned (governor.TypeOrClass g) = false
+is_ungoverned (governor.Class class) = false
+
+abbrev pub is_entered : Names → ParameterizationArgument → Bool
+is_entered names dummy = if is_ungoverned dummy.param_governor then list_any (bytes_eq dummy.dummy_reference) names else false
+
+-- A template asks for a dummy: it goes on to what the dummy stands for.
+abbrev pub asks_for : Names → Option Parameterization → Bool
+asks_for names None = false
+asks_for names (Some p) = list_any (is_entered names) p.parameters
+
+abbrev pub is_asking : ToplevelDefinition → Bool
+is_asking d = asks_for (entered d) (parameters_of d)
+
+-- x stands for a template that asks for a dummy
+pub record Asks (defs : Definitions) (x : List ℕ) : Type 0 where
+  pub definition : ToplevelDefinition
+  pub stands : last_named defs x ≡ Some definition
+  pub asking : is_asking definition ≡ true
+
+-- Neither x nor a template that it leads to through templates asks for a dummy: each argument that is a type is merely put in.
+abbrev pub IsGentle : Definitions → List ℕ → Type 0
+IsGentle defs = LeadsToNone (RefersToTemplate defs) (Asks defs)
+
+-- ---- circles
+
+-- The names by which a definition leads on: those that it goes on to, and, where it isn't gentle, those that it follows, names in
+-- arguments among them.
+abbrev pub leading : Bool → ToplevelDefinition → Names
+leading is_gentle d = entered d ++ (if is_gentle then [] else followed_of d)
+
+-- x and y are in one circle: they are one name, or each leads to the other
+abbrev pub AreOneCircle : Definitions → List ℕ → List ℕ → Type 0
+AreOneCircle defs x y = (x ≡ y) ⊎ (Leads (Refers defs) x y × Leads (Refers defs) y x)
+
+-- a name by which the definition of x leads on is in one circle with x
+pub record LeadsBack (defs : Definitions) (x : List ℕ) (d : ToplevelDefinition) : Type 0 where
+  pub is_gentle : Bool
+  pub told : IsTrue is_gentle ↔ IsGentle defs x
+  pub name : List ℕ
+  pub leads : Contains (leading is_gentle d) name
+  pub back : AreOneCircle defs x name
+
+-- x is circular: linking changes the definition that stands for it, and x is a template that leads to itself through templates, or leads
+-- back to itself by a name by which it leads on
 pub record IsCircular (defs : Definitions) (x : List ℕ) : Type 0 where
   pub definition : ToplevelDefinition
   pub stands : last_named defs x ≡ Some definition
   pub changed : is_unchanged definition ≡ false
-  pub name : List ℕ
-  pub leads : Contains (leading definition) name
-  pub back : AreOneCircle defs x name
+  pub circle : Leads (RefersToTemplate defs) x x ⊎ LeadsBack defs x definition
 
 -- neither x nor what it leads to is circular
-pub record LeadsToNoCircle (defs : Definitions) (x : List ℕ) : Type 0 where
-  pub itself : IsCircular defs x → ⊥
-  pub others : (y : List ℕ) → Leads defs x y → IsCircular defs y → ⊥
+abbrev pub LeadsToNoCircle : Definitions → List ℕ → Type 0
+LeadsToNoCircle defs = LeadsToNone (Refers defs) (IsCircular defs)
 
 -- for each name in its turn, whether it leads to no circle
 abbrev pub FreeAre : Definitions → List (List ℕ) → List Bool → Type 0
-FreeAre defs = AllZip (λ x is_free. IsTrue is_free ↔ LeadsToNoCircle defs x)
+FreeAre defs = EachTold (LeadsToNoCircle defs)
 
 -- ---- what a definition follows that linking leaves as it is
 
@@ -73,4 +157,4 @@ FollowsNoCircle defs x = (d : ToplevelDefinition) → last_named defs x ≡ Some
 
 -- for each name in its turn, whether it follows no circle
 abbrev pub FollowersAre : Definitions → List (List ℕ) → List Bool → Type 0
-FollowersAre defs = AllZip (λ x is_free. IsTrue is_free ↔ FollowsNoCircle defs x)
+FollowersAre defs = EachTold (FollowsNoCircle defs)

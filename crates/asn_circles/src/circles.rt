@@ -1,15 +1,18 @@
 //! Which definitions lead to no circle.
 
-ghost use Rattle.asn_circles.specs.Circles.{FreeAre};
+ghost use Rattle.asn_circles.specs.Circles.{EachTold, FreeAre, IsCircular, IsGentle, leading, templates_among};
 ghost use Rattle.asn_circles.specs.inner.Nodes.{AreCircular, IsAnyBack, IsBack, IsCircularAt};
 ghost use Rattle.asn_graph.specs.Graphs.{IsNode};
 ghost use Rattle.asn_index.specs.Definitions.{IsStanding};
-ghost use Rattle.asn_name_graph.specs.Drawn.{Ascend};
+ghost use Rattle.asn_name_graph.specs.Drawn.{Ascend, IsDrawn};
+ghost use Rattle.asn_references.specs.References.{references_of};
 ghost use Rattle.asn_tree.specs.Calls.{name_of};
 ghost use Rattle.std.specs.Prelude.{◌≡◌, ◌↔◌, ◌+◌, IfOk, IsTrue, length, map};
 
-use crate::drawing::graph_of;
+use crate::asking::asking_nodes;
+use crate::drawing::{components_of, mentions_of};
 use crate::leading::leading;
+use crate::templates::templates_of;
 use asn_graph::{Components, free_nodes};
 use asn_index::Names;
 use asn_memory::{List, Mem, Text};
@@ -50,52 +53,133 @@ fn is_any_back(components: &Components, names: &[&Text], node: usize, several: &
     false
 }
 
-/// Whether linking changes the definition of a node, and a name by which it leads on is of one component with it.
-fn is_circular(
+/// Whether a name by which a definition leads on is of one component with its node.
+fn is_led_back(
     alloc: Global,
     components: &Components,
     names: &[&Text],
     node: usize,
     definition: &ToplevelDefinition,
+    is_gentle: bool,
 ) -> Mem<bool>
     requires ascend { Ascend (map (λ n. n.now) names.now) }
     requires long { length names.now + 1 ≡ length components.now.edges.starts }
     requires node { IsNode components.now.edges node }
-    ensures { IfOk result (λ told. IsTrue told ↔ IsCircularAt components.now.edges (map (λ n. n.now) names.now) node definition.now) }
+    ensures { IfOk result (λ told. IsTrue told ↔ IsAnyBack components.now.edges (map (λ n. n.now) names.now) node (leading is_gentle definition.now)) }
+{
+    let several = leading(alloc, definition, is_gentle)?;
+    Ok(is_any_back(components, names, node, several.as_slice()))
+}
+
+/// Whether linking changes the definition of a node, which is on a cycle of the graph of templates, or is led back to by the definition.
+fn is_circular(
+    alloc: Global,
+    templates: &Components,
+    components: &Components,
+    names: &[&Text],
+    node: usize,
+    definition: &ToplevelDefinition,
+    is_gentle: bool,
+) -> Mem<bool>
+    requires ascend { Ascend (map (λ n. n.now) names.now) }
+    requires long { length names.now + 1 ≡ length components.now.edges.starts }
+    requires node { IsNode components.now.edges node }
+    requires template { IsNode templates.now.edges node }
+    ensures { IfOk result (λ told. IsTrue told ↔ IsCircularAt templates.now.edges components.now.edges (map (λ n. n.now) names.now) node is_gentle definition.now) }
 {
     if is_unchanged(definition) {
         Ok(false)
+    } else if templates.needs_itself(node) {
+        Ok(true)
     } else {
-        let several = leading(alloc, definition)?;
-        Ok(is_any_back(components, names, node, several.as_slice()))
+        let told = is_led_back(alloc, components, names, node, definition, is_gentle)?;
+        Ok(told)
     }
 }
 
-/// This of each node; the nodes have these names.
+/// This of each node; it is told of each whether its definition is gentle.
 fn circular_nodes(
     alloc: Global,
+    templates: &Components,
     components: &Components,
     names: &[&Text],
     definitions: &[&ToplevelDefinition],
-) -> Mem<Vec<bool>>
+    gentle: &[bool],
+) -> Mem<List<bool>>
     requires ascend { Ascend (map (λ n. n.now) names.now) }
-    requires named { map (λ n. n.now) names.now ≡ map name_of (map (λ d. d.now) definitions.now) }
+    requires named { length names.now ≡ length definitions.now }
+    requires gentle { length gentle.now ≡ length definitions.now }
     requires long { length definitions.now + 1 ≡ length components.now.edges.starts }
-    ensures { IfOk result (λ marked. AreCircular components.now.edges (map (λ d. d.now) definitions.now) marked.items) }
+    requires templates { length definitions.now + 1 ≡ length templates.now.edges.starts }
+    ensures { IfOk result (λ marked. AreCircular templates.now.edges components.now.edges (map (λ n. n.now) names.now) (map (λ d. d.now) definitions.now) gentle.now marked) }
 {
-    let mut marked = Vec::new(alloc);
+    let mut marked = List::new(alloc);
     for (node, definition) in definitions.iter().enumerate() {
-        marked.push(is_circular(alloc, components, names, node, definition)?)?;
+        let told = is_circular(
+            alloc,
+            templates,
+            components,
+            names,
+            node,
+            definition,
+            gentle[node],
+        )?;
+        marked.add(told)?;
     }
     Ok(marked)
 }
 
+/// For each definition whether it is gentle; `templates` is the graph of the templates to which definitions refer.
+fn gentle_nodes<'t>(
+    alloc: Global,
+    index: &Names<'t>,
+    standing: &[&'t ToplevelDefinition],
+    templates: &Components,
+) -> Mem<List<bool>>
+    requires standing { IsStanding index.now.definitions.now (map (λ d. d.now) standing.now) }
+    requires drawn { IsDrawn (map name_of (map (λ d. d.now) standing.now)) (map (λ d. templates_among index.now.definitions.now (references_of d)) (map (λ d. d.now) standing.now)) templates.now.edges }
+    ensures { IfOk result (λ gentle. EachTold (IsGentle index.now.definitions.now) (map name_of (map (λ d. d.now) standing.now)) gentle) }
+{
+    let asking = asking_nodes(alloc, standing)?;
+    let gentle = free_nodes(alloc, templates, asking.as_slice())?;
+    Ok(gentle)
+}
+
+/// For each definition whether it is circular; `components` is the graph of the names to which definitions refer.
+fn circular<'t>(
+    alloc: Global,
+    index: &Names<'t>,
+    standing: &[&'t ToplevelDefinition],
+    names: &[&Text],
+    templates: &Components,
+    components: &Components,
+) -> Mem<List<bool>>
+    requires standing { IsStanding index.now.definitions.now (map (λ d. d.now) standing.now) }
+    requires named { map (λ n. n.now) names.now ≡ map name_of (map (λ d. d.now) standing.now) }
+    requires templates { IsDrawn (map name_of (map (λ d. d.now) standing.now)) (map (λ d. templates_among index.now.definitions.now (references_of d)) (map (λ d. d.now) standing.now)) templates.now.edges }
+    requires drawn { IsDrawn (map name_of (map (λ d. d.now) standing.now)) (map references_of (map (λ d. d.now) standing.now)) components.now.edges }
+    ensures { IfOk result (λ marked. EachTold (IsCircular index.now.definitions.now) (map name_of (map (λ d. d.now) standing.now)) marked) }
+{
+    let gentle = gentle_nodes(alloc, index, standing, templates)?;
+    let marked = circular_nodes(
+        alloc,
+        templates,
+        components,
+        names,
+        standing,
+        gentle.as_slice(),
+    )?;
+    Ok(marked)
+}
+
 /// For each of the definitions that stand, in their order, whether it leads to no circle: neither it nor any that it leads to is
-/// circular. A name is circular where linking changes its definition and one of the names by which that leads on is in a circle with it: of a
-/// type its own name, the class of a field, and those that the definition follows (`asn_references::followed`);
-/// of a template and of a definition of no type every name. `standing` is what `Names::standing` gives of `names`. The work is linear in the names that
-/// definitions mention, but for a search by halves for each, and for names that lead to each other, whose edges may be gone over more
-/// than twice.
+/// circular. A name is circular where linking changes its definition, and it is a template that leads to itself through templates (X.683
+/// clause 9), or one of the names by which it leads on is in a circle with it: of a type the one that the type is (X.680 clause 17) and those
+/// that are asked for in it (`asn_references::asked`), and, where it refers to a template that asks for what a dummy stands for, at once
+/// or through templates, those that it follows too (`asn_references::followed`); of a definition of no type every name. `standing` is
+/// what `Names::standing` gives of `names`. The work is linear in the names that definitions mention, but for a search by halves for each,
+/// for the dummies of a template, each of which is looked for among its names, and for names that lead to each other, whose edges may
+/// be gone over more than twice.
 ///
 /// # Errors
 ///
@@ -108,10 +192,19 @@ pub fn free_of_circles<'t>(
     requires { IsStanding names.now.definitions.now (map (λ d. d.now) standing.now) }
     ensures { IfOk result (λ free. FreeAre names.now.definitions.now (map (λ d. name_of d.now) standing.now) free) }
 {
-    let graph = graph_of(alloc, standing)?;
-    let components = Components::of(alloc, graph)?;
     let all = names_of(alloc, standing)?;
-    let circular = circular_nodes(alloc, &components, all.as_slice(), standing)?;
+    let mentions = mentions_of(alloc, standing)?;
+    let templates = templates_of(alloc, names, mentions.as_slice())?;
+    let through_templates = components_of(alloc, all.as_slice(), templates.as_slice())?;
+    let components = components_of(alloc, all.as_slice(), mentions.as_slice())?;
+    let circular = circular(
+        alloc,
+        names,
+        standing,
+        all.as_slice(),
+        &through_templates,
+        &components,
+    )?;
     let free = free_nodes(alloc, &components, circular.as_slice())?;
     Ok(free)
 }

@@ -1,50 +1,53 @@
-//! The graph of the names that definitions mention, written down definition by definition.
+//! Graphs of names, written down definition by definition.
 
-ghost use Rattle.asn_name_graph.specs.Drawn.{AddsNode, Ascend, IsDrawn};
+ghost use Rattle.asn_name_graph.specs.Drawn.{Ascend, IsDrawn};
 ghost use Rattle.asn_references.specs.References.{references_of};
-ghost use Rattle.asn_tree.specs.Calls.{name_of};
-ghost use Rattle.std.specs.Prelude.{IfOk, OnOk, map};
+ghost use Rattle.std.specs.Prelude.{◌≡◌, IfOk, length, map};
 
-use asn_graph::{Graph, GraphBuilder};
-use asn_memory::{Mem, Text};
-use asn_name_graph::{add_mentions, finished, names_of};
+use asn_graph::{Components, GraphBuilder};
+use asn_memory::{List, Mem, Text};
+use asn_name_graph::{add_mentions, finished};
 use asn_references::references;
 use asn_tree::ToplevelDefinition;
 use std::alloc::Global;
 
-/// Begins the definition's node, with an edge to each name that it mentions and that stands among the names.
-fn add_definition(
+/// The names that each definition mentions.
+pub(crate) fn mentions_of<'t>(
     alloc: Global,
-    builder: &mut GraphBuilder,
-    names: &[&Text],
-    definition: &ToplevelDefinition,
-) -> Mem<()>
-    requires { Ascend (map (λ n. n.now) names.now) }
-    ensures { OnOk result (AddsNode (map (λ n. n.now) names.now) (references_of definition.now) builder.old builder.new) }
+    definitions: &[&'t ToplevelDefinition],
+) -> Mem<List<List<&'t Text>>>
+    ensures { IfOk result (λ lists. map (map (λ n. n.now)) lists ≡ map references_of (map (λ d. d.now) definitions.now)) }
 {
-    let mentioned = references(alloc, definition)?;
-    add_mentions(builder, names, mentioned.as_slice())?;
-    Ok(())
+    let mut lists = List::new(alloc);
+    for definition in definitions {
+        lists.add(references(alloc, definition)?)?;
+    }
+    Ok(lists)
 }
 
-/// A node for each definition, in their order.
-fn draw(alloc: Global, names: &[&Text], definitions: &[&ToplevelDefinition]) -> Mem<GraphBuilder>
+/// A node for each list of names, with an edge to each name in it that stands among the names.
+fn draw(alloc: Global, names: &[&Text], lists: &[List<&Text>]) -> Mem<GraphBuilder>
     requires { Ascend (map (λ n. n.now) names.now) }
-    ensures { IfOk result (λ g. IsDrawn (map (λ n. n.now) names.now) (map (λ d. references_of d.now) definitions.now) g) }
+    ensures { IfOk result (λ g. IsDrawn (map (λ n. n.now) names.now) (map (map (λ n. n.now)) lists.now) g) }
 {
     let mut builder = GraphBuilder::new(alloc)?;
-    for definition in definitions {
-        add_definition(alloc, &mut builder, names, definition)?;
+    for mentioned in lists {
+        add_mentions(&mut builder, names, mentioned.as_slice())?;
     }
     Ok(builder)
 }
 
-/// The graph of definitions in the order of their names: a node for each, and an edge to each of them whose name it mentions.
-pub(crate) fn graph_of(alloc: Global, definitions: &[&ToplevelDefinition]) -> Mem<Graph>
-    requires { Ascend (map (λ d. name_of d.now) definitions.now) }
-    ensures { IfOk result (λ g. IsDrawn (map (λ d. name_of d.now) definitions.now) (map (λ d. references_of d.now) definitions.now) g) }
+/// The components of the graph of names in which each name has an edge to those names that are in the list at its place.
+pub(crate) fn components_of(
+    alloc: Global,
+    names: &[&Text],
+    lists: &[List<&Text>],
+) -> Mem<Components>
+    requires ascend { Ascend (map (λ n. n.now) names.now) }
+    requires long { length lists.now ≡ length names.now }
+    ensures { IfOk result (λ c. IsDrawn (map (λ n. n.now) names.now) (map (map (λ n. n.now)) lists.now) c.edges) }
 {
-    let names = names_of(alloc, definitions)?;
-    let builder = draw(alloc, names.as_slice(), definitions)?;
-    Ok(finished(builder))
+    let builder = draw(alloc, names, lists)?;
+    let components = Components::of(alloc, finished(builder))?;
+    Ok(components)
 }

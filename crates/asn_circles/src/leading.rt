@@ -1,13 +1,13 @@
 //! The names by which definitions lead on whoever looks for what they stand for.
 
-ghost use Rattle.asn_circles.specs.Circles.{leading, path, told_by};
-ghost use Rattle.asn_tree.specs.declared.definitions.ToplevelDefinition.TheVariants.{TypeDef};
+ghost use Rattle.asn_circles.specs.Circles.{entered, leading, own_name, path};
+ghost use Rattle.asn_references.specs.References.{followed_of};
 ghost use Rattle.asn_tree.specs.declared.types.ASN1Type.{out-ASN1Type};
-ghost use Rattle.std.specs.Prelude.{◌≡◌, ◌++◌, IfOk, OnOk, map};
+ghost use Rattle.std.specs.Prelude.{◌≡◌, ◌++◌, [], IfOk, OnOk, if◌then◌else◌, map};
 
 use asn_memory::{List, Mem, Text};
-use asn_references::{followed, references};
-use asn_tree::{ASN1Type, ToplevelDefinition, ToplevelTypeDefinition};
+use asn_references::{asked, followed, references};
+use asn_tree::{ASN1Type, ToplevelDefinition};
 use std::alloc::Global;
 
 /// Adds a name, behind that of its object where it has one.
@@ -23,14 +23,14 @@ fn add_path<'t>(out: &mut List<&'t Text>, parent: &'t Option<Text>, name: &'t Te
     }
 }
 
-/// Adds the names by which it is told what a type is.
-fn add_told_by<'t>(out: &mut List<&'t Text>, ty: &'t ASN1Type) -> Mem<()>
-    ensures { OnOk result (map (λ n. n.now) out.new ≡ map (λ n. n.now) out.old ++ told_by (out-ASN1Type ty.now)) }
+/// Adds the name that a type is.
+fn add_own_name<'t>(out: &mut List<&'t Text>, ty: &'t ASN1Type) -> Mem<()>
+    ensures { OnOk result (map (λ n. n.now) out.new ≡ map (λ n. n.now) out.old ++ own_name (out-ASN1Type ty.now)) }
 {
     match ty {
         ASN1Type::ElsewhereDeclaredType(name) => add_path(out, &name.parent, &name.identifier),
-        ASN1Type::InformationObjectFieldReference(field) => out.add(&field.class),
-        ASN1Type::Null
+        ASN1Type::InformationObjectFieldReference(_)
+        | ASN1Type::Null
         | ASN1Type::Boolean(_)
         | ASN1Type::Integer(_)
         | ASN1Type::Real(_)
@@ -53,34 +53,16 @@ fn add_told_by<'t>(out: &mut List<&'t Text>, ty: &'t ASN1Type) -> Mem<()>
     }
 }
 
-/// Those of a definition of a type: all its names, where it is a template.
-fn leading_of_type<'t>(
-    alloc: Global,
-    definition: &'t ToplevelDefinition,
-    ty: &'t ToplevelTypeDefinition,
-) -> Mem<List<&'t Text>>
-    requires { definition.now ≡ TypeDef ty.now }
-    ensures { IfOk result (λ names. map (λ n. n.now) names ≡ leading definition.now) }
-{
-    if ty.parameterization.is_some() {
-        let names = references(alloc, definition)?;
-        Ok(names)
-    } else {
-        let mut names = List::new(alloc);
-        add_told_by(&mut names, &ty.ty)?;
-        names.append(followed(alloc, definition)?)?;
-        Ok(names)
-    }
-}
-
-/// The names by which a definition leads on: those by which its type is told, and those that it follows; of a template and of a
-/// definition of no type every name.
-pub(crate) fn leading<'t>(alloc: Global, definition: &'t ToplevelDefinition) -> Mem<List<&'t Text>>
-    ensures { IfOk result (λ names. map (λ n. n.now) names ≡ leading definition.now) }
+/// The names that whoever looks for what a definition stands for goes on to: the one that its type is, and those that are asked for
+/// in it; of a definition of no type every name.
+pub(crate) fn entered<'t>(alloc: Global, definition: &'t ToplevelDefinition) -> Mem<List<&'t Text>>
+    ensures { IfOk result (λ names. map (λ n. n.now) names ≡ entered definition.now) }
 {
     match definition {
         ToplevelDefinition::TypeDef(ty) => {
-            let names = leading_of_type(alloc, definition, ty)?;
+            let mut names = List::new(alloc);
+            add_own_name(&mut names, &ty.ty)?;
+            names.append(asked(alloc, definition)?)?;
             Ok(names)
         }
         ToplevelDefinition::Value(_) => {
@@ -92,4 +74,33 @@ pub(crate) fn leading<'t>(alloc: Global, definition: &'t ToplevelDefinition) -> 
             Ok(names)
         }
     }
+}
+
+/// Adds the names that a definition follows, where it isn't gentle.
+fn add_followed<'t>(
+    alloc: Global,
+    out: &mut List<&'t Text>,
+    definition: &'t ToplevelDefinition,
+    is_gentle: bool,
+) -> Mem<()>
+    ensures { OnOk result (map (λ n. n.now) out.new ≡ map (λ n. n.now) out.old ++ (if is_gentle then [] else followed_of definition.now)) }
+{
+    if is_gentle {
+        Ok(())
+    } else {
+        out.append(followed(alloc, definition)?)
+    }
+}
+
+/// The names by which a definition leads on: those that it goes on to, and, where it isn't gentle, those that it follows.
+pub(crate) fn leading<'t>(
+    alloc: Global,
+    definition: &'t ToplevelDefinition,
+    is_gentle: bool,
+) -> Mem<List<&'t Text>>
+    ensures { IfOk result (λ names. map (λ n. n.now) names ≡ leading is_gentle definition.now) }
+{
+    let mut names = entered(alloc, definition)?;
+    add_followed(alloc, &mut names, definition, is_gentle)?;
+    Ok(names)
 }

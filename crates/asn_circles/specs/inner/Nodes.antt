@@ -1,30 +1,37 @@
--- What is told of the nodes of the graph of names.
-use Rattle.std.specs.Prelude.{◌≡◌, ◌↔◌, ◌<◌, ℕ, Bool, false, List, length, map, Contains, IsTrue, slice_index_or}
-use Rattle.asn_graph.specs.Graphs.{AreOneComponent, Edges}
+-- What is told of the nodes of graphs of names.
+use Rattle.std.specs.Prelude.{◌≡◌, ◌↔◌, ◌<◌, ◌⊎◌, ℕ, Bool, List, [], false, length, Contains, IsTrue, slice_index_or}
+use Rattle.asn_graph.specs.Graphs.{AreOneComponent, Edges, NeedsItself}
 use Rattle.asn_tree.specs.declared.definitions.ToplevelDefinition.{ToplevelDefinition}
-use Rattle.asn_index.specs.Definitions.{Definitions, name_of}
+use Rattle.asn_index.specs.Definitions.{Definitions}
+use Rattle.asn_references.specs.References.{Names}
 use Rattle.asn_name_graph.specs.Drawn.{StandsAt}
 use Rattle.asn_unchanged.specs.Unchanged.{is_unchanged}
 use Rattle.asn_circles.specs.Circles.{leading}
 
 -- the name stands at a node that is of one component with this one
-pub record IsBack (g : Edges) (names : List (List ℕ)) (x : ℕ) (name : List ℕ) : Type 0 where
+pub record IsBack (g : Edges) (names : Names) (x : ℕ) (name : List ℕ) : Type 0 where
   pub node : ℕ
   pub stands : StandsAt names name node
   pub one : AreOneComponent g x node
 
 -- so does one of these names
-pub record IsAnyBack (g : Edges) (names : List (List ℕ)) (x : ℕ) (several : List (List ℕ)) : Type 0 where
+pub record IsAnyBack (g : Edges) (names : Names) (x : ℕ) (several : Names) : Type 0 where
   pub name : List ℕ
   pub among : Contains several name
   pub back : IsBack g names x name
 
--- linking changes the definition, and a name by which it leads on stands at a node of one component with this one
-abbrev pub IsCircularAt : Edges → List (List ℕ) → ℕ → ToplevelDefinition → Type 0
-IsCircularAt g names x d = (is_unchanged d ≡ false) × IsAnyBack g names x (leading d)
+-- linking changes the definition of the node, which is on a cycle of the graph of templates, or a name by which it leads on stands at a
+-- node of one component with it
+abbrev pub IsCircularAt : Edges → Edges → Names → ℕ → Bool → ToplevelDefinition → Type 0
+IsCircularAt templates g names x is_gentle d = (is_unchanged d ≡ false) × (NeedsItself templates x ⊎ IsAnyBack g names x (leading is_gentle d))
 
--- for each node, whether its definition is so
-pub record AreCircular (g : Edges) (definitions : Definitions) (marked : List Bool) : Type 0 where
+-- for each node, whether its definition is so; it is told of each whether it is gentle
+pub record AreCircular (templates g : Edges) (names : Names) (definitions : Definitions) (gentle marked : List Bool) : Type 0 where
   pub long : length marked ≡ length definitions
   pub each : (x : ℕ) (d : ToplevelDefinition) → x < length definitions →
-      (IsTrue (slice_index_or marked x false) ↔ IsCircularAt g (map name_of definitions) x (slice_index_or definitions x d))
+      (IsTrue (slice_index_or marked x false) ↔ IsCircularAt templates g names x (slice_index_or gentle x false) (slice_index_or definitions x d))
+
+-- for each definition names that are such of it
+pub record AreEach (Are : List ℕ → ToplevelDefinition → Names → Type 0) (names : Names) (definitions : Definitions) (lists : List Names) : Type 0 where
+  pub long : length lists ≡ length definitions
+  pub each : (x : ℕ) (d : ToplevelDefinition) → x < length definitions → Are (slice_index_or names x []) (slice_index_or definitions x d) (slice_index_or lists x [])

@@ -1,7 +1,7 @@
 use Rattle.std.proofs.Common.{ap, map, subst, sym}
 use Rattle.std.proofs.lemmas.List.{take_all}
 use Rattle.asn_circles.specs.inner.Nodes.{IsAnyBack}
-use Rattle.asn_circles.proofs.Followed.{more_back, none_back}
+use Rattle.asn_circles.proofs.Circling.{more_back, none_back}
 use Rattle.asn_circles.proofs.circles.is_any_back.Goals as goal
 
 pub loop-name-init : goal.loop-name-init

@@ -1,6 +1,6 @@
 use Rattle.std.proofs.Common.{◌≡◌, ◌<◌, ◌∙◌, arith, length, map, sym}
 use Rattle.std.proofs.lemmas.List.{length-map}
-use Rattle.asn_circles.proofs.Followed.{back_there}
+use Rattle.asn_circles.proofs.Circling.{back_there}
 use Rattle.asn_circles.proofs.circles.is_back.Goals as goal
 
 pub returns-else-here-there : goal.returns-else-here-there

@@ -1,10 +1,11 @@
-use Rattle.std.proofs.Common.{map}
-use Rattle.asn_references.specs.References.{references_of}
+use Rattle.std.proofs.Common.{map, subst}
+use Rattle.asn_name_graph.specs.Drawn.{AddsNode}
 use Rattle.asn_name_graph.proofs.Added.{definitions_more}
 use Rattle.asn_circles.proofs.drawing.draw.Goals as goal
 
-pub loop-definition-preserved : goal.loop-definition-preserved
-loop-definition-preserved c =
-    let loop = c.loop-definition in
-    definitions_more (map (λ n. n.now) c.args.names.now) (λ d. references_of d.now) c.args.definitions.now loop.definition-index c.definition-item.result
-    loop.builder c.add_definition.new.builder c.loop-definition-test.true c.definition-item.is loop.invariant c.in_ok-add_definition.ensures
+pub loop-mentioned-preserved : goal.loop-mentioned-preserved
+loop-mentioned-preserved c =
+    let loop = c.loop-mentioned in
+    definitions_more (map (λ n. n.now) c.args.names.now) (map (λ n. n.now)) c.args.lists.now loop.mentioned-index c.mentioned-item.result
+    loop.builder c.add_mentions.new.builder c.loop-mentioned-test.true c.mentioned-item.is loop.invariant
+    (subst (λ ns. AddsNode (map (λ n. n.now) c.args.names.now) (map (λ n. n.now) ns) loop.builder c.add_mentions.new.builder) c.as_slice.ensures c.in_ok-add_mentions.ensures)
