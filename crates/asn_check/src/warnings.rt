@@ -152,8 +152,7 @@ fn warnings_on(
 }
 
 /// All warnings on the names of these definitions, in their order; `free` tells of each whether it leads to no circle, and `follow`
-/// whether nothing in the types of its defaults, in its tables and in its contents does; `made` tells of each of all names whether the
-/// type of its definition was linked.
+/// whether no name that it follows does; `made` tells of each of all names whether the type of its definition was linked.
 ///
 /// Err: want of memory.
 pub(crate) fn warnings_on_all(

@@ -37,8 +37,8 @@ pub record HasTypes (defs : Definitions) (d : ToplevelDefinition) : Type 0 where
 abbrev pub IsTold : Definitions → List ℕ → (Seen → Site → Bool) → Bool → Type 0
 IsTold defs name f told = Eventually (λ n. IsSomewhere (seen defs n) (ToDefinition name) f ↔ (told ≡ true))
 
--- Linking judges a definition that leads to no circle of names; of one that it leaves as it is it asks this of the names in the
--- types of defaults, in tables and in contents alone.
+-- Linking judges a definition that leads to no circle of names; of one that it leaves as it is it asks this of the names alone that the
+-- definition follows.
 abbrev pub IsJudged : Definitions → List ℕ → ToplevelDefinition → Type 0
 IsJudged defs name d = ((is_unchanged d ≡ true) × FollowsNoCircle defs name) ⊎ LeadsToNoCircle defs name
 
