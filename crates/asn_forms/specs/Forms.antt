@@ -136,7 +136,7 @@ abbrev pub is_contained : Position → Bool
 is_contained Alone = false
 is_contained Contained = true
 
--- a plain name as the head of a contained subtype is a reference
+-- a plain name as the head of a contained subtype is a reference (X.680 51.3)
 abbrev pub name_forms : Form → Option (List ℕ) → List Bool → Position → Bool
 name_forms form parent cs position = (is_reference form && (is_contained position && is_none parent)) || is_any cs
 
@@ -154,9 +154,11 @@ last_behind b (x ∷ xs) = last_behind (is_value_field x) xs
 abbrev pub ends_in_value : List ObjectFieldIdentifier → Bool
 ends_in_value path = last_behind false path
 
+-- the type of a class's field whose last step is a value field (X.681 14.1)
 abbrev pub field_forms : Form → List ObjectFieldIdentifier → List Bool → Bool
 field_forms form path cs = (is_class_field form && ends_in_value path) || is_any cs
 
+-- a selection type (X.680 30.1), or what stands in the parts of a type and in the constraints behind it
 abbrev pub type_forms : Form → TypeOver told → Position → Bool
 type_forms form ASN1Type-F.ASN1Type::Null position = false
 type_forms form (ASN1Type-F.ASN1Type::Boolean t) position = is_any t.constraints
@@ -187,6 +189,7 @@ member_forms m = (m.ty Alone || is_any m.constraints) || present m.default_value
 abbrev pub option_forms : OptionOver told → Bool
 option_forms o = o.ty Alone || is_any o.constraints
 
+-- COMPONENTS OF (X.680 25.5)
 abbrev pub struct_forms : Form → StructOver told → Bool
 struct_forms form s = ((is_components_of form && has_some s.components_of) || is_any s.members) || is_any s.constraints
 

@@ -1,6 +1,6 @@
 //! The forms, and the question of each.
 
-ghost use Rattle.asn_forms.specs.Forms.{in_type, is_class_field, is_components_of, is_contained, is_reference, is_selection, stands_in};
+ghost use Rattle.asn_forms.specs.Forms.{is_class_field, is_components_of, is_contained, is_reference, is_selection, stands_in};
 ghost use Rattle.asn_forms.specs.declared.forms.Form.TheVariants.{ClassField, ComponentsOf, ConstraintReference, Selection};
 ghost use Rattle.std.specs.Prelude.{◌≡◌};
 
