@@ -23,9 +23,8 @@ use Rattle.asn_tree.specs.declared.objects.SyntaxApplication.{SyntaxApplication,
 use Rattle.asn_tree.specs.declared.objects.SyntaxApplication.TheVariants as item
 use Rattle.asn_tree.specs.declared.values.ASN1Value.{ASN1Value, out-ASN1Value}
 use Rattle.asn_tree.specs.declared.values.ASN1Value.TheVariants as value
-use Rattle.asn_references.specs.References.{Names, NamesOf, argument_names, component_names, constraint_names, element_names, field_names, item_names, item_of_set_names, joined, names_in_argument, names_in_component, names_in_constraint, names_in_element, names_in_field, names_in_fields, names_in_item, names_in_object, names_in_objects, names_in_value, naming, one_name, value_names}
+use Rattle.asn_references.specs.References.{Names, NamesOf, argument_names, component_names, constraint_names, element_names, field_names, item_names, item_of_set_names, joined, names_in_argument, names_in_component, names_in_constraint, names_in_element, names_in_field, names_in_fields, names_in_item, names_in_object, names_in_objects, names_in_value, naming, item_name, value_names, within}
 use Rattle.asn_references.specs.declared.wanted.Wanted.{Wanted}
-use Rattle.asn_references.specs.declared.wanted.Wanted.TheVariants.{Every}
 
 -- ---- values
 
@@ -81,14 +80,14 @@ items_in _ = []
 
 objects_told : (marker : Option ℕ) (items : List (ObjectSetValueOver InformationObjectFields)) → map item_of_set_names (items_in (parameter_read naming (Parameter-F.ObjectSetParameter (set_of marker items)))) ≡ map names_in_object items
 objects_told marker [] = refl
-objects_told marker (Reference name ∷ items) = ap (λ xs. one_name name ∷ xs) (objects_told marker items)
-objects_told marker (Inline fields ∷ items) = ap (λ xs. names_in_fields fields ∷ xs) (objects_told marker items)
+objects_told marker (Reference name ∷ items) = ap (λ xs. item_name name ∷ xs) (objects_told marker items)
+objects_told marker (Inline fields ∷ items) = ap (λ xs. (λ w. names_in_fields fields (within w)) ∷ xs) (objects_told marker items)
 
-pub argument_of_objects : (v : Parameter) (s : ObjectSet) (w : Wanted) → v ≡ parameter.ObjectSetParameter s → names_in_argument v w ≡ names_in_objects s.values Every
+pub argument_of_objects : (v : Parameter) (s : ObjectSet) (w : Wanted) → v ≡ parameter.ObjectSetParameter s → names_in_argument v w ≡ names_in_objects s.values w
 argument_of_objects v s w e =
     ap (λ f. f w) (parameter_is naming v)
     ∙ ap (λ o. argument_names (parameter_read naming o) w) (ap out-Parameter e ∙ parameter.outs-ObjectSetParameter s)
-    ∙ ap (λ ns. joined ns Every) (objects_told s.extensible s.values)
+    ∙ ap (λ ns. joined ns w) (objects_told s.extensible s.values)
 
 pub item_of_objects : (v : SyntaxApplication) (s : ObjectSet) (w : Wanted) → v ≡ item.ObjectSetDeclaration s → names_in_item v w ≡ names_in_objects s.values w
 item_of_objects v s w e =
@@ -102,8 +101,8 @@ field_of_objects v f w e =
     ∙ ap (λ o. field_names (field_read naming o) w) (ap out-InformationObjectField e ∙ field.outs-ObjectSetField f)
     ∙ ap (λ ns. joined ns w) (objects_told f.value.extensible f.value.values)
 
-pub table_of_objects : (v : Constraint) (t : TableConstraintOver InformationObjectFields) (w : Wanted) → v ≡ constraint.TableConstraint t → names_in_constraint v w ≡ names_in_objects t.object_set.values Every
+pub table_of_objects : (v : Constraint) (t : TableConstraintOver InformationObjectFields) (w : Wanted) → v ≡ constraint.TableConstraint t → names_in_constraint v w ≡ names_in_objects t.object_set.values w
 table_of_objects v t w e =
     ap (λ f. f w) (constraint_is naming v)
     ∙ ap (λ o. constraint_names (constraint_read naming o) w) (ap out-Constraint e ∙ constraint.outs-TableConstraint t)
-    ∙ ap (λ ns. joined ns Every) (objects_told t.object_set.extensible t.object_set.values)
+    ∙ ap (λ ns. joined ns w) (objects_told t.object_set.extensible t.object_set.values)

@@ -1,5 +1,5 @@
 -- The names in a definition that stand where a reference may stand: of a type, a value, a class, an object or an object set; all of
--- them, those that are followed alone, or those that are asked for.
+-- them, or those alone that are entered, followed, asked for or selected.
 -- They are more than the references: dummies, items of enumerations and named numbers that are written as a value's name are among
 -- them. No name that may be a reference is left out.
 use Rattle.std.specs.Prelude.{ℕ, List, [], ◌∷◌, ◌++◌, map, Option, Some, None}
@@ -42,7 +42,7 @@ use Rattle.asn_tree.specs.declared.types.SequenceOrSetOf.{SequenceOrSetOf}
 use Rattle.asn_tree.specs.declared.values.ASN1Value.{ASN1Value, ASN1Value-F}
 use Rattle.asn_tree.specs.declared.values.LinkedField.{LinkedField}
 use Rattle.asn_references.specs.declared.wanted.Wanted.{Wanted}
-use Rattle.asn_references.specs.declared.wanted.Wanted.TheVariants.{Every, Followed, Asked}
+use Rattle.asn_references.specs.declared.wanted.Wanted.TheVariants.{Every, Entered, Followed, Asked, Selected}
 
 abbrev pub Names : Type 0
 Names = List (List ℕ)
@@ -51,11 +51,13 @@ Names = List (List ℕ)
 abbrev pub NamesOf : Type 0
 NamesOf = Wanted → Names
 
--- the names where every one is wanted; else none
+-- the names where every one is wanted, or every one that is entered; else none
 abbrev pub each_name : Names → NamesOf
 each_name names Every = names
+each_name names Entered = names
 each_name names Followed = []
 each_name names Asked = []
+each_name names Selected = []
 
 -- a name
 abbrev pub one_name : List ℕ → NamesOf
@@ -84,22 +86,42 @@ path_names parent name w = name_in parent w ++ one_name name w
 abbrev pub reference_names : Option (List ℕ) → List ℕ → List NamesOf → NamesOf
 reference_names parent name cs w = path_names parent name w ++ joined cs w
 
--- in the type of a default every name is wanted
+-- in parts that are followed every name is wanted that is entered
+abbrev pub within : Wanted → Wanted
+within Every = Every
+within Entered = Entered
+within Followed = Entered
+within Asked = Entered
+within Selected = Selected
+
+-- so it is in the type of a default
 abbrev pub in_default : Option NamesOf → Wanted → Wanted
 in_default None w = w
-in_default (Some value) w = Every
+in_default (Some value) w = within w
 
--- in an argument list too; where those are wanted that are asked for, so are they in the types there
+-- and in an argument list; where those are wanted that are asked for, so are they in the types there
 abbrev pub in_arguments : Wanted → Wanted
 in_arguments Every = Every
-in_arguments Followed = Every
+in_arguments Entered = Entered
+in_arguments Followed = Entered
 in_arguments Asked = Asked
+in_arguments Selected = Selected
 
 -- the class of a field is asked for
 abbrev pub of_class : Wanted → Wanted
 of_class Every = Every
+of_class Entered = Entered
 of_class Followed = Followed
-of_class Asked = Every
+of_class Asked = Entered
+of_class Selected = Selected
+
+-- the name of an item of an object set, which is not entered
+abbrev pub item_name : List ℕ → NamesOf
+item_name name Every = name ∷ []
+item_name name Entered = []
+item_name name Followed = []
+item_name name Asked = []
+item_name name Selected = []
 
 -- ---- types
 
@@ -129,9 +151,9 @@ type_names (ASN1Type-F.InformationObjectFieldReference f) w = one_name f.class (
 type_names ASN1Type-F.EmbeddedPdv w = []
 type_names ASN1Type-F.External w = []
 
--- the members first, then the names behind COMPONENTS OF (X.680 25.5), which are always wanted
+-- the members first, then the names behind COMPONENTS OF (X.680 25.5), which are followed
 abbrev pub struct_names : StructOf NamesOf → NamesOf
-struct_names s w = joined s.members w ++ each_name s.components_of Every ++ joined s.constraints w
+struct_names s w = joined s.members w ++ each_name s.components_of (within w) ++ joined s.constraints w
 
 abbrev pub member_names : MemberOf NamesOf → NamesOf
 member_names m w = m.ty (in_default m.default_value w) ++ joined m.constraints w ++ present m.default_value w
@@ -184,8 +206,8 @@ linked_names f w = f.ty w ++ held f.value w
 
 -- an item of an object set: the name of an object or a set, or an object (X.681 12.3)
 abbrev pub item_of_set_names : ObjectSetValueOver NamesOf → NamesOf
-item_of_set_names (Reference name) w = one_name name w
-item_of_set_names (Inline fields) w = fields w
+item_of_set_names (Reference name) w = item_name name w
+item_of_set_names (Inline fields) w = fields (within w)
 
 abbrev pub object_set_names : ObjectSetOver NamesOf → NamesOf
 object_set_names s w = joined (map item_of_set_names s.values) w
@@ -211,24 +233,24 @@ fields_names (InformationObjectFields-F.CustomSyntax items) w = joined items w
 
 -- ---- constraints
 
--- The names behind `@` are those of components (X.682 10.7). In a table and in a content every name is wanted.
+-- The names behind `@` are those of components (X.682 10.7). Tables, contents and argument lists are followed.
 abbrev pub constraint_names : ConstraintOf NamesOf → NamesOf
 constraint_names (Constraint-F.SubtypeConstraint s) w = s.set w
-constraint_names (Constraint-F.TableConstraint t) w = object_set_names t.object_set Every
+constraint_names (Constraint-F.TableConstraint t) w = object_set_names t.object_set w
 constraint_names (Constraint-F.Parameter arguments) w = joined arguments (in_arguments w)
 constraint_names (Constraint-F.ContentConstraint content) w = content w
 
 abbrev pub content_names : ContentOf NamesOf → NamesOf
-content_names (ContentConstraint-F.Containing ty) w = ty Every
-content_names (ContentConstraint-F.EncodedBy rules) w = rules Every
-content_names (ContentConstraint-F.ContainingEncodedBy ty rules) w = ty Every ++ rules Every
+content_names (ContentConstraint-F.Containing ty) w = ty (within w)
+content_names (ContentConstraint-F.EncodedBy rules) w = rules (within w)
+content_names (ContentConstraint-F.ContainingEncodedBy ty rules) w = ty (within w) ++ rules (within w)
 
--- In an argument that is no type every name is wanted.
+-- An argument that is no type is followed.
 abbrev pub argument_names : ParameterOf NamesOf → NamesOf
-argument_names (Parameter-F.ValueParameter v) w = v Every
+argument_names (Parameter-F.ValueParameter v) w = v (within w)
 argument_names (Parameter-F.TypeParameter ty) w = ty w
-argument_names (Parameter-F.InformationObjectParameter fields) w = fields Every
-argument_names (Parameter-F.ObjectSetParameter s) w = object_set_names s Every
+argument_names (Parameter-F.InformationObjectParameter fields) w = fields (within w)
+argument_names (Parameter-F.ObjectSetParameter s) w = object_set_names s w
 
 abbrev pub set_names : SetOf NamesOf → NamesOf
 set_names (ElementOrSetOperation-F.Element e) w = e w
@@ -241,14 +263,14 @@ operation_names o w = o.base w ++ o.operant w
 abbrev pub component_names : ConstrainedComponentOver NamesOf → NamesOf
 component_names c w = joined c.constraints w
 
--- In a contained subtype every name is wanted; a pattern, a constraint in words and settings hold none.
+-- A contained subtype is followed; a pattern, a constraint in words and settings hold no name.
 abbrev pub element_names : ElementOf NamesOf → NamesOf
 element_names (SubtypeElement-F.SingleValue v extensible) w = v w
-element_names (SubtypeElement-F.ContainedSubtype ty extensible) w = ty Every
+element_names (SubtypeElement-F.ContainedSubtype ty extensible) w = ty (within w)
 element_names (SubtypeElement-F.ValueRange low high low_open high_open extensible) w = present low w ++ present high w
 element_names (SubtypeElement-F.PermittedAlphabet set) w = set w
 element_names (SubtypeElement-F.SizeConstraint set) w = set w
-element_names (SubtypeElement-F.TypeConstraint ty) w = ty Every
+element_names (SubtypeElement-F.TypeConstraint ty) w = ty (within w)
 element_names (SubtypeElement-F.SingleTypeConstraint cs) w = joined cs w
 element_names (SubtypeElement-F.MultipleTypeConstraints inner) w = joined (map component_names inner.constraints) w
 element_names (SubtypeElement-F.PatternConstraint x) w = []
@@ -335,8 +357,8 @@ names_in_item = of_item naming
 
 -- an item of an object set
 abbrev pub names_in_object : ObjectSetValueOver InformationObjectFields → NamesOf
-names_in_object (Reference name) w = one_name name w
-names_in_object (Inline fields) w = names_in_fields fields w
+names_in_object (Reference name) w = item_name name w
+names_in_object (Inline fields) w = names_in_fields fields (within w)
 
 abbrev pub names_in_objects : List (ObjectSetValueOver InformationObjectFields) → NamesOf
 names_in_objects items w = joined (map names_in_object items) w
@@ -385,8 +407,12 @@ definition_names (Information d) w = parameter_names d.parameterization w ++ lin
 unfoldable pub references_of : ToplevelDefinition → Names
 references_of d = definition_names d Every
 
--- Those in the types of defaults, in tables, in contents, in contained subtypes and in argument lists, and those of selections and behind
--- COMPONENTS OF, alone.
+-- Every one but those of the items of object sets.
+unfoldable pub entered_of : ToplevelDefinition → Names
+entered_of d = definition_names d Entered
+
+-- Of these the ones in the types of defaults, in tables, in contents, in contained subtypes and in argument lists, and those of selections
+-- and behind COMPONENTS OF.
 unfoldable pub followed_of : ToplevelDefinition → Names
 followed_of d = definition_names d Followed
 
@@ -394,3 +420,7 @@ followed_of d = definition_names d Followed
 -- gone through as a part is; and the classes of fields.
 unfoldable pub asked_of : ToplevelDefinition → Names
 asked_of d = definition_names d Asked
+
+-- Those of selections alone.
+unfoldable pub selected_of : ToplevelDefinition → Names
+selected_of d = definition_names d Selected

@@ -6,7 +6,7 @@ ghost use Rattle.std.specs.Prelude.{◌≡◌, ◌++◌, OnOk, map};
 use crate::objects::{add_fields, add_objects};
 use crate::types::add_type;
 use crate::values::{add_optional_value, add_value};
-use crate::wanted::{Wanted, in_arguments};
+use crate::wanted::{Wanted, in_arguments, within};
 use asn_memory::{List, Mem, Text};
 use asn_tree::{
     Constraint, ContentConstraint, ElementOrSetOperation, Parameter, SetOperation, SubtypeElement,
@@ -27,7 +27,7 @@ pub(crate) fn add_constraints<'t>(
     Ok(())
 }
 
-/// Adds those of a constraint; of a table every name in its object set.
+/// Adds those of a constraint.
 #[cycle(naming)]
 fn add_constraint<'t>(
     out: &mut List<&'t Text>,
@@ -41,7 +41,7 @@ fn add_constraint<'t>(
         Constraint::TableConstraint(table) => add_objects(
             out,
             table.object_set.values.as_slice(),
-            Wanted::Every,
+            wanted,
         ),
         Constraint::Parameter(arguments) => {
             add_arguments(out, arguments.as_slice(), in_arguments(wanted))
@@ -50,7 +50,7 @@ fn add_constraint<'t>(
     }
 }
 
-/// Adds every name in a content (X.682 clause 11).
+/// Adds those of a content (X.682 clause 11), which is followed.
 #[cycle(naming)]
 fn add_content<'t>(
     out: &mut List<&'t Text>,
@@ -60,14 +60,14 @@ fn add_content<'t>(
     ensures { OnOk result (map (λ n. n.now) out.new ≡ map (λ n. n.now) out.old ++ names_in_content content.now wanted) }
 {
     match content {
-        ContentConstraint::Containing(ty) => add_type(out, ty, Wanted::Every),
-        ContentConstraint::EncodedBy(rules) => add_value(out, rules, Wanted::Every),
+        ContentConstraint::Containing(ty) => add_type(out, ty, within(wanted)),
+        ContentConstraint::EncodedBy(rules) => add_value(out, rules, within(wanted)),
         ContentConstraint::ContainingEncodedBy {
             containing,
             encoded_by,
         } => {
-            add_type(out, containing, Wanted::Every)?;
-            add_value(out, encoded_by, Wanted::Every)
+            add_type(out, containing, within(wanted))?;
+            add_value(out, encoded_by, within(wanted))
         }
     }
 }
@@ -87,18 +87,16 @@ fn add_arguments<'t>(
     Ok(())
 }
 
-/// Adds those of an argument; of one that is no type every name.
+/// Adds those of an argument; one that is no type is followed.
 #[cycle(naming)]
 fn add_argument<'t>(out: &mut List<&'t Text>, argument: &'t Parameter, wanted: Wanted) -> Mem<()>
     ensures { OnOk result (map (λ n. n.now) out.new ≡ map (λ n. n.now) out.old ++ names_in_argument argument.now wanted) }
 {
     match argument {
-        Parameter::ValueParameter(value) => add_value(out, value, Wanted::Every),
+        Parameter::ValueParameter(value) => add_value(out, value, within(wanted)),
         Parameter::TypeParameter(ty) => add_type(out, ty, wanted),
-        Parameter::InformationObjectParameter(fields) => add_fields(out, fields, Wanted::Every),
-        Parameter::ObjectSetParameter(set) => {
-            add_objects(out, set.values.as_slice(), Wanted::Every)
-        }
+        Parameter::InformationObjectParameter(fields) => add_fields(out, fields, within(wanted)),
+        Parameter::ObjectSetParameter(set) => { add_objects(out, set.values.as_slice(), wanted) }
     }
 }
 
@@ -140,14 +138,14 @@ fn add_element<'t>(out: &mut List<&'t Text>, element: &'t SubtypeElement, wanted
         SubtypeElement::ContainedSubtype {
             subtype,
             extensible: _,
-        } => add_type(out, subtype, Wanted::Every),
+        } => add_type(out, subtype, within(wanted)),
         SubtypeElement::ValueRange { min, max, .. } => {
             add_optional_value(out, min, wanted)?;
             add_optional_value(out, max, wanted)
         }
         SubtypeElement::PermittedAlphabet(set) => add_set(out, set.get(), wanted),
         SubtypeElement::SizeConstraint(set) => add_set(out, set.get(), wanted),
-        SubtypeElement::TypeConstraint(ty) => add_type(out, ty, Wanted::Every),
+        SubtypeElement::TypeConstraint(ty) => add_type(out, ty, within(wanted)),
         SubtypeElement::SingleTypeConstraint(constraints) => {
             add_constraints(out, constraints.as_slice(), wanted)
         }

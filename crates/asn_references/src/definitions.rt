@@ -1,6 +1,6 @@
 //! The names in definitions (X.680 clause 16, X.681 clauses 9 to 12), with the governors of dummies (X.683 8.3).
 
-ghost use Rattle.asn_references.specs.References.{asked_of, class_field_names, class_names, definition_names, dummy_names, followed_of, governor_names, information_names, joined, link_names, names_in, parameter_names, present, references_of};
+ghost use Rattle.asn_references.specs.References.{asked_of, class_field_names, class_names, definition_names, dummy_names, entered_of, followed_of, governor_names, information_names, joined, link_names, names_in, parameter_names, present, references_of, selected_of};
 ghost use Rattle.std.specs.Option.{option_map};
 ghost use Rattle.std.specs.Prelude.{◌≡◌, ◌++◌, IfOk, OnOk, map};
 
@@ -186,6 +186,21 @@ pub fn references<'t>(alloc: Global, definition: &'t ToplevelDefinition) -> Mem<
     Ok(names)
 }
 
+/// Those of these names that are not the names of items of object sets (X.681 12.3), in order and as often as they stand: what is gone to from
+/// a definition of no type, where a set is asked for nothing but that it is one.
+///
+/// # Errors
+///
+/// Want of memory alone.
+#[tactic(auto, unfolding(crate::specs::References::entered_of))]
+pub fn entered<'t>(alloc: Global, definition: &'t ToplevelDefinition) -> Mem<List<&'t Text>>
+    ensures { IfOk result (λ names. map (λ n. n.now) names ≡ entered_of definition.now) }
+{
+    let mut names = List::new(alloc);
+    add_definition(&mut names, definition, Wanted::Entered)?;
+    Ok(names)
+}
+
 /// Those of these names that stand in the type of a member with a default (X.680 25.1), in a table (X.682 clause 10), in a content
 /// (X.682 clause 11), in a contained subtype (X.680 51.3) or in an argument list (X.683 clause 9), and those of selections (X.680 clause
 /// 30) and behind COMPONENTS OF (X.680 25.5), in order and as often as they stand: what a definition follows.
@@ -215,5 +230,19 @@ pub fn asked<'t>(alloc: Global, definition: &'t ToplevelDefinition) -> Mem<List<
 {
     let mut names = List::new(alloc);
     add_definition(&mut names, definition, Wanted::Asked)?;
+    Ok(names)
+}
+
+/// Those of these names that stand before `<` in a selection (X.680 clause 30), in order and as often as they stand.
+///
+/// # Errors
+///
+/// Want of memory alone.
+#[tactic(auto, unfolding(crate::specs::References::selected_of))]
+pub fn selected<'t>(alloc: Global, definition: &'t ToplevelDefinition) -> Mem<List<&'t Text>>
+    ensures { IfOk result (λ names. map (λ n. n.now) names ≡ selected_of definition.now) }
+{
+    let mut names = List::new(alloc);
+    add_definition(&mut names, definition, Wanted::Selected)?;
     Ok(names)
 }

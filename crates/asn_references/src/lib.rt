@@ -1,7 +1,7 @@
 //! The names in a definition that stand where a reference may stand, of whatever kind.
 //!
 //! It stands on the trees, borrows them, copies no text, and looks no name up. The layer above asks it where a definition may
-//! lead: all names of one, those that it follows, or those that are asked for.
+//! lead: all names of one, or those that are entered, followed, asked for or selected.
 #![tactic(auto)]
 
 mod constraints;
@@ -12,4 +12,4 @@ mod types;
 mod values;
 mod wanted;
 
-pub use definitions::{asked, followed, references};
+pub use definitions::{asked, entered, followed, references, selected};

@@ -1,19 +1,29 @@
 //! Names, alone and with an object's before them (X.681 15), and those of arcs (X.680 32.3).
 
-ghost use Rattle.asn_references.specs.References.{arc_names, each_name, name_in, one_name, path_names};
+ghost use Rattle.asn_references.specs.References.{arc_names, each_name, item_name, name_in, one_name, path_names};
 ghost use Rattle.std.specs.Prelude.{◌≡◌, ◌++◌, OnOk, map};
 
 use crate::wanted::Wanted;
 use asn_memory::{List, Mem, Text};
 use asn_tree::ObjectIdentifierArc;
 
-/// Adds a name, where every one is wanted.
+/// Adds a name, where every one is wanted that is entered.
 pub(crate) fn add_name<'t>(out: &mut List<&'t Text>, name: &'t Text, wanted: Wanted) -> Mem<()>
     ensures { OnOk result (map (λ n. n.now) out.new ≡ map (λ n. n.now) out.old ++ one_name name.now wanted) }
 {
     match wanted {
+        Wanted::Every | Wanted::Entered => out.add(name),
+        Wanted::Followed | Wanted::Asked | Wanted::Selected => Ok(()),
+    }
+}
+
+/// Adds the name of an item of an object set, where every one is wanted.
+pub(crate) fn add_item_name<'t>(out: &mut List<&'t Text>, name: &'t Text, wanted: Wanted) -> Mem<()>
+    ensures { OnOk result (map (λ n. n.now) out.new ≡ map (λ n. n.now) out.old ++ item_name name.now wanted) }
+{
+    match wanted {
         Wanted::Every => out.add(name),
-        Wanted::Followed | Wanted::Asked => Ok(()),
+        Wanted::Entered | Wanted::Followed | Wanted::Asked | Wanted::Selected => Ok(()),
     }
 }
 
@@ -27,13 +37,13 @@ fn add_all<'t>(out: &mut List<&'t Text>, names: &'t [Text]) -> Mem<()>
     Ok(())
 }
 
-/// Adds names, in their order, where every one is wanted.
+/// Adds names, in their order, where every one is wanted that is entered.
 pub(crate) fn add_names<'t>(out: &mut List<&'t Text>, names: &'t [Text], wanted: Wanted) -> Mem<()>
     ensures { OnOk result (map (λ n. n.now) out.new ≡ map (λ n. n.now) out.old ++ each_name names.now wanted) }
 {
     match wanted {
-        Wanted::Every => add_all(out, names),
-        Wanted::Followed | Wanted::Asked => Ok(()),
+        Wanted::Every | Wanted::Entered => add_all(out, names),
+        Wanted::Followed | Wanted::Asked | Wanted::Selected => Ok(()),
     }
 }
 

@@ -3,10 +3,10 @@
 ghost use Rattle.asn_references.specs.References.{joined, names_in_field, names_in_fields, names_in_item, names_in_objects};
 ghost use Rattle.std.specs.Prelude.{◌≡◌, ◌++◌, OnOk, map};
 
-use crate::names::add_name;
+use crate::names::add_item_name;
 use crate::types::{add_reference, add_type};
 use crate::values::add_value;
-use crate::wanted::Wanted;
+use crate::wanted::{Wanted, within};
 use asn_memory::{List, Mem, Text};
 use asn_tree::{
     InformationObjectField, InformationObjectFields, ObjectSetValue, SyntaxApplication,
@@ -115,8 +115,8 @@ pub(crate) fn add_objects<'t>(
 {
     for item in items {
         match item {
-            ObjectSetValue::Reference(name) => add_name(out, name, wanted)?,
-            ObjectSetValue::Inline(fields) => add_fields(out, fields, wanted)?,
+            ObjectSetValue::Reference(name) => add_item_name(out, name, wanted)?,
+            ObjectSetValue::Inline(fields) => add_fields(out, fields, within(wanted))?,
         }
     }
     Ok(())

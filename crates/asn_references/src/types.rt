@@ -6,7 +6,7 @@ ghost use Rattle.std.specs.Prelude.{◌≡◌, ◌++◌, OnOk, map};
 use crate::constraints::add_constraints;
 use crate::names::{add_name, add_names, add_path};
 use crate::values::add_optional_value;
-use crate::wanted::{Wanted, in_default, of_class};
+use crate::wanted::{Wanted, in_default, of_class, within};
 use asn_memory::{List, Mem, Text};
 use asn_tree::{
     ASN1Type, Choice, ChoiceOption, Constraint, SequenceOrSet, SequenceOrSetMember, SequenceOrSetOf,
@@ -104,7 +104,7 @@ fn add_struct<'t>(out: &mut List<&'t Text>, layer: &'t SequenceOrSet, wanted: Wa
     ensures { OnOk result (map (λ n. n.now) out.new ≡ map (λ n. n.now) out.old ++ names_in_struct layer.now wanted) }
 {
     add_members(out, layer.members.as_slice(), wanted)?;
-    add_names(out, layer.components_of.as_slice(), Wanted::Every)?;
+    add_names(out, layer.components_of.as_slice(), within(wanted))?;
     add_constraints(out, layer.constraints.as_slice(), wanted)
 }
 

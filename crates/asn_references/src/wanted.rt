@@ -1,6 +1,6 @@
 //! Which names of a definition are wanted.
 
-ghost use Rattle.asn_references.specs.References.{in_arguments, in_default, names_in_value, of_class};
+ghost use Rattle.asn_references.specs.References.{in_arguments, in_default, names_in_value, of_class, within};
 ghost use Rattle.std.specs.Option.{option_map};
 ghost use Rattle.std.specs.Prelude.{◌≡◌};
 
@@ -11,11 +11,28 @@ use asn_tree::ASN1Value;
 pub(crate) enum Wanted {
     /// Every name that stands where a reference may stand.
     Every,
+    /// Every one but those of the items of object sets.
+    Entered,
     /// Of these the ones in the types of defaults, in tables, in contents, in contained subtypes and in argument lists, and those of
     /// selections and behind COMPONENTS OF.
     Followed,
     /// As `Followed`, but in an argument that is a type those that are asked for there; and the classes of fields.
     Asked,
+    /// Those of selections alone.
+    Selected,
+}
+
+/// Which names are wanted in a part that is followed.
+pub(crate) fn within(wanted: Wanted) -> Wanted
+    ensures { result ≡ within wanted }
+{
+    match wanted {
+        Wanted::Every => Wanted::Every,
+        Wanted::Entered => Wanted::Entered,
+        Wanted::Followed => Wanted::Entered,
+        Wanted::Asked => Wanted::Entered,
+        Wanted::Selected => Wanted::Selected,
+    }
 }
 
 /// Which names are wanted of a member's type, by its default.
@@ -24,7 +41,7 @@ pub(crate) fn in_default(default: &Option<ASN1Value>, wanted: Wanted) -> Wanted
 {
     match default {
         None => wanted,
-        Some(_) => Wanted::Every,
+        Some(_) => within(wanted),
     }
 }
 
@@ -34,8 +51,10 @@ pub(crate) fn in_arguments(wanted: Wanted) -> Wanted
 {
     match wanted {
         Wanted::Every => Wanted::Every,
-        Wanted::Followed => Wanted::Every,
+        Wanted::Entered => Wanted::Entered,
+        Wanted::Followed => Wanted::Entered,
         Wanted::Asked => Wanted::Asked,
+        Wanted::Selected => Wanted::Selected,
     }
 }
 
@@ -45,7 +64,9 @@ pub(crate) fn of_class(wanted: Wanted) -> Wanted
 {
     match wanted {
         Wanted::Every => Wanted::Every,
+        Wanted::Entered => Wanted::Entered,
         Wanted::Followed => Wanted::Followed,
-        Wanted::Asked => Wanted::Every,
+        Wanted::Asked => Wanted::Entered,
+        Wanted::Selected => Wanted::Selected,
     }
 }
