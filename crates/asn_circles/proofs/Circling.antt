@@ -10,7 +10,7 @@ use Rattle.asn_graph.specs.Graphs.{AreOneComponent, Edges as Graph, Needs}
 use Rattle.asn_graph.specs.Reach.{AreFree}
 use Rattle.asn_index.specs.Definitions.{Definitions, IsStanding, name_of}
 use Rattle.asn_references.specs.References.{Names, references_of}
-use Rattle.asn_circles.specs.Circles.{AreOneCircle, Asks, EachTold, FreeAre, IsCircular, IsGentle, Leads, LeadsBack, Refers, is_asking, leading, templates_among}
+use Rattle.asn_circles.specs.Circles.{AreOneCircle, Asks, EachTold, FreeAre, IsCircular, IsGentle, Leads, LeadsBack, Refers, is_asking, leading, opening, templates_among}
 use Rattle.asn_circles.specs.inner.Nodes.{AreCircular, AreEach, IsAnyBack, IsBack, IsCircularAt}
 use Rattle.asn_name_graph.specs.Drawn.{Ascend, IsDrawn, StandsAt}
 use Rattle.asn_name_graph.proofs.Added.{none_contained, one_contained}
@@ -54,21 +54,21 @@ module _ {B : Type 0} (R : ℕ → B → Type 0) (b : B) where
           let e : i ≡ y = omega (arith, k, h) in
           subst (R y) (sym (get_or_push out c b y (l ∙ e))) (subst (λ j. R j c) e told)
 
-module _ {X Y : Type 0} (f : X → ToplevelDefinition) (n : Y → List ℕ) (templates g : Graph) (names : List Y) (xs : List X) (gentle : List Bool) where
+module _ {X Y : Type 0} (f : X → ToplevelDefinition) (n : Y → List ℕ) (on g : Graph) (names : List Y) (xs : List X) (gentle : List Bool) where
   -- whether the definition of a node is circular
   abbrev IsMark : ℕ → Bool → Type 0
-  IsMark x b = (d : ToplevelDefinition) → (b ≡ true) ↔ IsCircularAt templates g (map n names) x (get_or gentle x false) (get_or (map f xs) x d)
+  IsMark x b = (d : ToplevelDefinition) → (b ≡ true) ↔ IsCircularAt on g (map n names) x (get_or gentle x false) (get_or (map f xs) x d)
 
   abbrev pub CircularSoFar : List Bool → ℕ → Type 0
   CircularSoFar = SoFar IsMark false
 
   pub circular_more : (marked new : List Bool) (i : ℕ) (x : X) (b : Bool) → length marked ≡ i → i < length xs → x ≡ get_or xs i x → new ≡ marked ++ b ∷ [] →
-      ((b ≡ true) ↔ IsCircularAt templates g (map n names) i (get_or gentle i false) (f x)) → CircularSoFar marked i → CircularSoFar new (i + 1)
+      ((b ≡ true) ↔ IsCircularAt on g (map n names) i (get_or gentle i false) (f x)) → CircularSoFar marked i → CircularSoFar new (i + 1)
   circular_more marked new i x b long h is same told before =
       one_more IsMark false marked new i b long same
-      (λ d. subst (λ e. (b ≡ true) ↔ IsCircularAt templates g (map n names) i (get_or gentle i false) e) (sym (get_or-map f xs i x d h ∙ ap f (sym is))) told) before
+      (λ d. subst (λ e. (b ≡ true) ↔ IsCircularAt on g (map n names) i (get_or gentle i false) e) (sym (get_or-map f xs i x d h ∙ ap f (sym is))) told) before
 
-  pub circular_all : (marked : List Bool) (i : ℕ) → length marked ≡ i → length xs ≡ i → CircularSoFar marked i → AreCircular templates g (map n names) (map f xs) gentle marked
+  pub circular_all : (marked : List Bool) (i : ℕ) → length marked ≡ i → length xs ≡ i → CircularSoFar marked i → AreCircular on g (map n names) (map f xs) gentle marked
   circular_all marked i long all told =
       let l : length (map f xs) ≡ length xs = length-map xs f in
       record { long = omega (arith, long, all, l); each = λ x d h. told x (omega (arith, h, all, l)) d }
@@ -104,20 +104,20 @@ module _ (defs ds : Definitions) (standing : IsStanding defs ds) where
         each = λ x d h. ap (λ ls. get_or ls x []) same ∙ get_or-map F ds x d [] h;
       }
 
-  pub asks_told : (asking : List Bool) → asking ≡ map is_asking ds → EachTold (Asks defs) (map name_of ds) asking
-  asks_told asking same = zipped (λ n b. (b ≡ true) ↔ Asks defs n) (map name_of ds) asking [] false (ap length same ∙ length-map ds is_asking ∙ sym (long defs ds standing)) at
+  pub asks_told : (asking : List Bool) → asking ≡ map (is_asking defs) ds → EachTold (Asks defs) (map name_of ds) asking
+  asks_told asking same = zipped (λ n b. (b ≡ true) ↔ Asks defs n) (map name_of ds) asking [] false (ap length same ∙ length-map ds (is_asking defs) ∙ sym (long defs ds standing)) at
     where
       at : (i : ℕ) → i < length asking → (get_or asking i false ≡ true) ↔ Asks defs (name_at defs ds standing i)
       at i h =
-          let l : length asking ≡ length ds = ap length same ∙ length-map ds is_asking in
+          let l : length asking ≡ length ds = ap length same ∙ length-map ds (is_asking defs) in
           let k : i < length ds = omega (arith, h, l) in
           let d : ToplevelDefinition = some_at defs ds standing i k in
-          let here : get_or asking i false ≡ is_asking (get_or ds i d) = ap (λ bs. get_or bs i false) same ∙ get_or-map is_asking ds i d false k in (
+          let here : get_or asking i false ≡ is_asking defs (get_or ds i d) = ap (λ bs. get_or bs i false) same ∙ get_or-map (is_asking defs) ds i d false k in (
             (λ t. record { definition = get_or ds i d; stands = stands defs ds standing i d k; asking = sym here ∙ t }),
-            (λ a. here ∙ ap is_asking (same_some (get_or ds i d) a.definition (sym (stands defs ds standing i d k) ∙ a.stands)) ∙ a.asking),
+            (λ a. here ∙ ap (is_asking defs) (same_some (get_or ds i d) a.definition (sym (stands defs ds standing i d k) ∙ a.stands)) ∙ a.asking),
           )
 
-  pub gentle_told : (g : Graph) (lists : List Names) (asking free : List Bool) → lists ≡ map (λ d. templates_among defs (references_of d)) ds → asking ≡ map is_asking ds →
+  pub gentle_told : (g : Graph) (lists : List Names) (asking free : List Bool) → lists ≡ map (λ d. templates_among defs (references_of d)) ds → asking ≡ map (is_asking defs) ds →
       IsDrawn (map name_of ds) lists g → AreFree g asking free → EachTold (IsGentle defs) (map name_of ds) free
   gentle_told g lists asking free same told drawn are =
       let F = λ (d : ToplevelDefinition). templates_among defs (references_of d) in
@@ -158,24 +158,21 @@ module _ (defs ds : Definitions) (standing : IsStanding defs ds) where
 
     -- of a definition of which it is told whether it is gentle
     led_back : (x : ℕ) (d : ToplevelDefinition) (is_gentle : Bool) → x < length ds → (IsTrue is_gentle ↔ IsGentle defs (here x)) →
-        IsAnyBack g (map name_of ds) x (leading is_gentle d) ↔ LeadsBack defs (here x) d
+        IsAnyBack g (map name_of ds) x (opening is_gentle d) ↔ LeadsBack defs (here x) d
     led_back x d is_gentle h told = (
-      (λ b. record { is_gentle = is_gentle; told = told; name = b.name; leads = b.among; back = back_circle x b.name b.back }),
+      (λ b. record { is_gentle = is_gentle; told = told; name = b.name; opens = b.among; back = back_circle x b.name b.back }),
       (λ l. record {
         name = l.name;
-        among = subst (λ z. Contains (leading z d) l.name) (same_truth l.is_gentle is_gentle l.told told) l.leads;
+        among = subst (λ z. Contains (opening z d) l.name) (same_truth l.is_gentle is_gentle l.told told) l.opens;
         back = circle_back x l.name h l.back;
       }),
     )
 
-    pub circular_told : (templates : Graph) (gentle marked : List Bool) →
-        IsDrawn (map name_of ds) (map (λ d. templates_among defs (references_of d)) ds) templates → EachTold (IsGentle defs) (map name_of ds) gentle →
-        AreCircular templates g (map name_of ds) ds gentle marked → EachTold (IsCircular defs) (map name_of ds) marked
-    circular_told templates gentle marked through told circular = zipped (λ n b. (b ≡ true) ↔ IsCircular defs n) (map name_of ds) marked [] false (circular.long ∙ sym (long defs ds standing)) at
+    pub circular_told : (on : Graph) (gentle marked : List Bool) →
+        IsDrawn (map name_of ds) (map (leading defs) ds) on → EachTold (IsGentle defs) (map name_of ds) gentle →
+        AreCircular on g (map name_of ds) ds gentle marked → EachTold (IsCircular defs) (map name_of ds) marked
+    circular_told on gentle marked through told circular = zipped (λ n b. (b ≡ true) ↔ IsCircular defs n) (map name_of ds) marked [] false (circular.long ∙ sym (long defs ds standing)) at
       where
-        F : ToplevelDefinition → Names
-        F d = templates_among defs (references_of d)
-
         at : (i : ℕ) → i < length marked → (get_or marked i false ≡ true) ↔ IsCircular defs (here i)
         at i h =
             let l : length marked ≡ length ds = circular.long in
@@ -185,7 +182,7 @@ module _ (defs ds : Definitions) (standing : IsStanding defs ds) where
             let both = circular.each i d k in
             let is_gentle = zip_at (λ n b. (b ≡ true) ↔ IsGentle defs n) (map name_of ds) gentle i [] false told (omega (arith, k, m)) in
             let back = led_back i (get_or ds i d) (get_or gentle i false) k is_gentle in
-            let circle = circle_iff (λ x d names. names ≡ F d) defs ds standing (map F ds) (are_each F (map F ds) refl) (λ x d names others p q. p ∙ sym q) templates through i k in (
+            let circle = circle_iff (λ x d names. names ≡ leading defs d) defs ds standing (map (leading defs) ds) (are_each (leading defs) (map (leading defs) ds) refl) (λ x d names others p q. p ∙ sym q) on through i k in (
               (λ t. (let b = both.0 t in record { definition = get_or ds i d; stands = stands defs ds standing i d k; changed = b.0; circle = either circle.0 back.0 b.1 })),
               (λ c. (
                   let same : get_or ds i d ≡ c.definition = same_some (get_or ds i d) c.definition (sym (stands defs ds standing i d k) ∙ c.stands) in

@@ -1,5 +1,5 @@
 -- Which definitions lead to no circle of names that counts.
-use Rattle.std.specs.Prelude.{◌≡◌, ◌↔◌, ◌⊎◌, ℕ, List, [], ◌∷◌, ◌++◌, Bool, false, true, Contains, IsSome, IsTrue, Option, Some, None, filter, is_some, if◌then◌else◌}
+use Rattle.std.specs.Prelude.{◌≡◌, ◌↔◌, ◌⊎◌, ℕ, List, [], ◌∷◌, ◌++◌, Bool, false, true, Contains, IsSome, IsTrue, Option, Some, None, filter, is_some, not, if◌then◌else◌}
 use Rattle.std.specs.List.{AllZip, list_any}
 use Rattle.std.specs.Str.{bytes_eq}
 use Rattle.asn_tree.specs.Layers.{TypeLayer}
@@ -9,9 +9,12 @@ use Rattle.asn_tree.specs.declared.definitions.Parameterization.{Parameterizatio
 use Rattle.asn_tree.specs.declared.definitions.ParameterizationArgument.{ParameterizationArgument}
 use Rattle.asn_tree.specs.declared.definitions.ToplevelDefinition.{ToplevelDefinition}
 use Rattle.asn_tree.specs.declared.definitions.ToplevelDefinition.TheVariants.{TypeDef, Value, Information}
+use Rattle.asn_tree.specs.declared.objects.ASN1Information.{ASN1Information}
+use Rattle.asn_tree.specs.declared.objects.ASN1Information.TheVariants.{ObjectClass, ObjectSet, Object}
 use Rattle.asn_tree.specs.declared.types.ASN1Type.{ASN1Type-F, out-ASN1Type}
 use Rattle.asn_index.specs.Definitions.{Definitions, last_named}
-use Rattle.asn_references.specs.References.{Names, asked_of, followed_of, references_of}
+use Rattle.asn_meaning.specs.Definitions.{is_class}
+use Rattle.asn_references.specs.References.{Names, asked_of, entered_of, followed_of, references_of, selected_of}
 use Rattle.asn_unchanged.specs.Unchanged.{is_unchanged}
 
 -- ---- what leads where
@@ -76,12 +79,18 @@ abbrev pub own_name : TypeLayer → Names
 own_name (ASN1Type-F.ElsewhereDeclaredType x) = path x.parent x.identifier
 own_name _ = []
 
+-- The type of a class's field is entered, and no class is: it stands for no type.
+abbrev pub no_classes : Definitions → ASN1Information → Names → Names
+no_classes defs (ObjectClass c) names = filter (λ name. not (is_class defs name)) names
+no_classes defs (ObjectSet s) names = names
+no_classes defs (Object o) names = names
+
 -- The names that whoever looks for what a definition stands for goes on to: the one that its type is, and those that are asked for in
--- it; of a definition of no type every name.
-abbrev pub entered : ToplevelDefinition → Names
-entered (TypeDef d) = own_name (out-ASN1Type d.ty) ++ asked_of (TypeDef d)
-entered (Value d) = references_of (Value d)
-entered (Information d) = references_of (Information d)
+-- it; of a definition of no type every name that is entered.
+abbrev pub gone_to : Definitions → ToplevelDefinition → Names
+gone_to defs (TypeDef d) = own_name (out-ASN1Type d.ty) ++ asked_of (TypeDef d)
+gone_to defs (Value d) = entered_of (Value d)
+gone_to defs (Information d) = no_classes defs d.value (entered_of (Information d))
 
 -- Such a dummy has no governor: it stands for a type or a class (X.683 8.3).
 abbrev pub is_ungoverned : ParameterGovernor → Bool
@@ -89,22 +98,22 @@ is_ungoverned governor.None = true
 is_ungoverned (governor.TypeOrClass g) = false
 is_ungoverned (governor.Class class) = false
 
-abbrev pub is_entered : Names → ParameterizationArgument → Bool
-is_entered names dummy = if is_ungoverned dummy.param_governor then list_any (bytes_eq dummy.dummy_reference) names else false
+abbrev pub is_gone_to : Names → ParameterizationArgument → Bool
+is_gone_to names dummy = if is_ungoverned dummy.param_governor then list_any (bytes_eq dummy.dummy_reference) names else false
 
 -- A template asks for a dummy: it goes on to what the dummy stands for.
 abbrev pub asks_for : Names → Option Parameterization → Bool
 asks_for names None = false
-asks_for names (Some p) = list_any (is_entered names) p.parameters
+asks_for names (Some p) = list_any (is_gone_to names) p.parameters
 
-abbrev pub is_asking : ToplevelDefinition → Bool
-is_asking d = asks_for (entered d) (parameters_of d)
+abbrev pub is_asking : Definitions → ToplevelDefinition → Bool
+is_asking defs d = asks_for (gone_to defs d) (parameters_of d)
 
 -- x stands for a template that asks for a dummy
 pub record Asks (defs : Definitions) (x : List ℕ) : Type 0 where
   pub definition : ToplevelDefinition
   pub stands : last_named defs x ≡ Some definition
-  pub asking : is_asking definition ≡ true
+  pub asking : is_asking defs definition ≡ true
 
 -- Neither x nor a template that it leads to through templates asks for a dummy: each argument that is a type is merely put in.
 abbrev pub IsGentle : Definitions → List ℕ → Type 0
@@ -112,30 +121,37 @@ IsGentle defs = LeadsToNone (RefersToTemplate defs) (Asks defs)
 
 -- ---- circles
 
--- The names by which a definition leads on: those that it goes on to, and, where it isn't gentle, those that it follows, names in
--- arguments among them.
-abbrev pub leading : Bool → ToplevelDefinition → Names
-leading is_gentle d = entered d ++ (if is_gentle then [] else followed_of d)
+-- x leads on to y: it goes on to it, or y is a template to which it refers
+abbrev pub leading : Definitions → ToplevelDefinition → Names
+leading defs d = gone_to defs d ++ templates_among defs (references_of d)
+
+abbrev pub LeadsOn : Definitions → List ℕ → List ℕ → Type 0
+LeadsOn defs = Goes (λ x d names. names ≡ leading defs d) defs
+
+-- The names by which one may come to a part of what they stand for, and so to any name in it: those of selections, and, where the
+-- definition isn't gentle, those that it follows, names in arguments among them.
+abbrev pub opening : Bool → ToplevelDefinition → Names
+opening is_gentle d = selected_of d ++ (if is_gentle then [] else followed_of d)
 
 -- x and y are in one circle: they are one name, or each leads to the other
 abbrev pub AreOneCircle : Definitions → List ℕ → List ℕ → Type 0
 AreOneCircle defs x y = (x ≡ y) ⊎ (Leads (Refers defs) x y × Leads (Refers defs) y x)
 
--- a name by which the definition of x leads on is in one circle with x
+-- such a name of the definition of x is in one circle with x
 pub record LeadsBack (defs : Definitions) (x : List ℕ) (d : ToplevelDefinition) : Type 0 where
   pub is_gentle : Bool
   pub told : IsTrue is_gentle ↔ IsGentle defs x
   pub name : List ℕ
-  pub leads : Contains (leading is_gentle d) name
+  pub opens : Contains (opening is_gentle d) name
   pub back : AreOneCircle defs x name
 
--- x is circular: linking changes the definition that stands for it, and x is a template that leads to itself through templates, or leads
--- back to itself by a name by which it leads on
+-- x is circular: linking changes the definition that stands for it, and x leads on to itself, or leads back by a name by which one may come
+-- to any name
 pub record IsCircular (defs : Definitions) (x : List ℕ) : Type 0 where
   pub definition : ToplevelDefinition
   pub stands : last_named defs x ≡ Some definition
   pub changed : is_unchanged definition ≡ false
-  pub circle : Leads (RefersToTemplate defs) x x ⊎ LeadsBack defs x definition
+  pub circle : Leads (LeadsOn defs) x x ⊎ LeadsBack defs x definition
 
 -- neither x nor what it leads to is circular
 abbrev pub LeadsToNoCircle : Definitions → List ℕ → Type 0

@@ -1,12 +1,13 @@
 //! Which templates ask for what a dummy stands for.
 
-ghost use Rattle.asn_circles.specs.Circles.{is_asking, is_entered};
+ghost use Rattle.asn_circles.specs.Circles.{is_asking, is_gone_to};
 ghost use Rattle.std.specs.List.{list_any};
 ghost use Rattle.std.specs.Prelude.{◌≡◌, IfOk, map};
 ghost use Rattle.std.specs.Str.{bytes_eq};
 
-use crate::leading::entered;
+use crate::leading::gone_to;
 use crate::templates::parameters;
+use asn_index::Names;
 use asn_memory::{List, Mem, Text};
 use asn_tree::{ParameterGovernor, ParameterizationArgument, ToplevelDefinition};
 use std::alloc::Global;
@@ -24,8 +25,8 @@ fn is_among(names: &[&Text], name: &Text) -> bool
 }
 
 /// Whether a dummy that stands for a type or a class is among the names.
-fn is_entered(names: &[&Text], dummy: &ParameterizationArgument) -> bool
-    ensures { result ≡ is_entered (map (λ n. n.now) names.now) dummy.now }
+fn is_gone_to(names: &[&Text], dummy: &ParameterizationArgument) -> bool
+    ensures { result ≡ is_gone_to (map (λ n. n.now) names.now) dummy.now }
 {
     match &dummy.param_governor {
         ParameterGovernor::None => is_among(names, &dummy.dummy_reference),
@@ -35,11 +36,11 @@ fn is_entered(names: &[&Text], dummy: &ParameterizationArgument) -> bool
 }
 
 /// Whether one of these dummies is.
-fn is_any_entered(names: &[&Text], dummies: &[ParameterizationArgument]) -> bool
-    ensures { result ≡ list_any (is_entered (map (λ n. n.now) names.now)) dummies.now }
+fn is_any_gone_to(names: &[&Text], dummies: &[ParameterizationArgument]) -> bool
+    ensures { result ≡ list_any (is_gone_to (map (λ n. n.now) names.now)) dummies.now }
 {
     for dummy in dummies {
-        if is_entered(names, dummy) {
+        if is_gone_to(names, dummy) {
             return true;
         }
     }
@@ -47,25 +48,29 @@ fn is_any_entered(names: &[&Text], dummies: &[ParameterizationArgument]) -> bool
 }
 
 /// Whether the definition is a template that asks for a dummy.
-fn is_asking(alloc: Global, definition: &ToplevelDefinition) -> Mem<bool>
-    ensures { IfOk result (λ asks. asks ≡ is_asking definition.now) }
+fn is_asking(alloc: Global, index: &Names<'_>, definition: &ToplevelDefinition) -> Mem<bool>
+    ensures { IfOk result (λ asks. asks ≡ is_asking index.now.definitions.now definition.now) }
 {
     match parameters(definition) {
         None => Ok(false),
         Some(parameters) => {
-            let names = entered(alloc, definition)?;
-            Ok(is_any_entered(names.as_slice(), parameters.parameters.as_slice()))
+            let names = gone_to(alloc, index, definition)?;
+            Ok(is_any_gone_to(names.as_slice(), parameters.parameters.as_slice()))
         }
     }
 }
 
 /// This of each definition.
-pub(crate) fn asking_nodes(alloc: Global, definitions: &[&ToplevelDefinition]) -> Mem<List<bool>>
-    ensures { IfOk result (λ told. told ≡ map is_asking (map (λ d. d.now) definitions.now)) }
+pub(crate) fn asking_nodes(
+    alloc: Global,
+    index: &Names<'_>,
+    definitions: &[&ToplevelDefinition],
+) -> Mem<List<bool>>
+    ensures { IfOk result (λ told. told ≡ map (is_asking index.now.definitions.now) (map (λ d. d.now) definitions.now)) }
 {
     let mut told = List::new(alloc);
     for definition in definitions {
-        told.add(is_asking(alloc, definition)?)?;
+        told.add(is_asking(alloc, index, definition)?)?;
     }
     Ok(told)
 }

@@ -1,13 +1,16 @@
 //! The names by which definitions lead on whoever looks for what they stand for.
 
-ghost use Rattle.asn_circles.specs.Circles.{entered, leading, own_name, path};
-ghost use Rattle.asn_references.specs.References.{followed_of};
+ghost use Rattle.asn_circles.specs.Circles.{gone_to, leading, no_classes, opening, own_name, path};
+ghost use Rattle.asn_meaning.specs.Definitions.{is_class};
+ghost use Rattle.asn_references.specs.References.{entered_of, followed_of};
 ghost use Rattle.asn_tree.specs.declared.types.ASN1Type.{out-ASN1Type};
-ghost use Rattle.std.specs.Prelude.{◌≡◌, ◌++◌, [], IfOk, OnOk, if◌then◌else◌, map};
+ghost use Rattle.std.specs.Prelude.{◌≡◌, ◌++◌, [], IfOk, OnOk, filter, if◌then◌else◌, map, not};
 
+use crate::templates::templates_among;
+use asn_index::Names;
 use asn_memory::{List, Mem, Text};
-use asn_references::{asked, followed, references};
-use asn_tree::{ASN1Type, ToplevelDefinition};
+use asn_references::{asked, entered, followed, references, selected};
+use asn_tree::{ASN1Information, ASN1Type, ToplevelDefinition};
 use std::alloc::Global;
 
 /// Adds a name, behind that of its object where it has one.
@@ -53,10 +56,47 @@ fn add_own_name<'t>(out: &mut List<&'t Text>, ty: &'t ASN1Type) -> Mem<()>
     }
 }
 
+/// Those of the names that stand for no class, in their order.
+fn no_classes<'t>(alloc: Global, index: &Names<'_>, several: &[&'t Text]) -> Mem<List<&'t Text>>
+    ensures { IfOk result (λ found. map (λ n. n.now) found ≡ filter (λ name. not (is_class index.now.definitions.now name)) (map (λ n. n.now) several.now)) }
+{
+    let mut found = List::new(alloc);
+    for name in several {
+        if !index.is_class(name.as_str()) {
+            found.add(*name)?;
+        }
+    }
+    Ok(found)
+}
+
+/// What a definition of a class, an object or an object set goes on to: every name that is entered, and of a class none of a class.
+fn gone_to_of_information<'t>(
+    alloc: Global,
+    index: &Names<'_>,
+    definition: &'t ToplevelDefinition,
+    value: &ASN1Information,
+) -> Mem<List<&'t Text>>
+    ensures { IfOk result (λ names. map (λ n. n.now) names ≡ no_classes index.now.definitions.now value.now (entered_of definition.now)) }
+{
+    let names = entered(alloc, definition)?;
+    match value {
+        ASN1Information::ObjectClass(_) => {
+            let names = no_classes(alloc, index, names.as_slice())?;
+            Ok(names)
+        }
+        ASN1Information::ObjectSet(_) => Ok(names),
+        ASN1Information::Object(_) => Ok(names),
+    }
+}
+
 /// The names that whoever looks for what a definition stands for goes on to: the one that its type is, and those that are asked for
-/// in it; of a definition of no type every name.
-pub(crate) fn entered<'t>(alloc: Global, definition: &'t ToplevelDefinition) -> Mem<List<&'t Text>>
-    ensures { IfOk result (λ names. map (λ n. n.now) names ≡ entered definition.now) }
+/// in it; of a definition of no type every name that is entered, and of a class none of a class.
+pub(crate) fn gone_to<'t>(
+    alloc: Global,
+    index: &Names<'_>,
+    definition: &'t ToplevelDefinition,
+) -> Mem<List<&'t Text>>
+    ensures { IfOk result (λ names. map (λ n. n.now) names ≡ gone_to index.now.definitions.now definition.now) }
 {
     match definition {
         ToplevelDefinition::TypeDef(ty) => {
@@ -66,14 +106,43 @@ pub(crate) fn entered<'t>(alloc: Global, definition: &'t ToplevelDefinition) -> 
             Ok(names)
         }
         ToplevelDefinition::Value(_) => {
-            let names = references(alloc, definition)?;
+            let names = entered(alloc, definition)?;
             Ok(names)
         }
-        ToplevelDefinition::Information(_) => {
-            let names = references(alloc, definition)?;
+        ToplevelDefinition::Information(information) => {
+            let names = gone_to_of_information(alloc, index, definition, &information.value)?;
             Ok(names)
         }
     }
+}
+
+/// The names by which a definition leads on: those that it goes on to, and the templates to which it refers.
+fn leading<'t>(
+    alloc: Global,
+    index: &Names<'_>,
+    definition: &'t ToplevelDefinition,
+) -> Mem<List<&'t Text>>
+    ensures { IfOk result (λ names. map (λ n. n.now) names ≡ leading index.now.definitions.now definition.now) }
+{
+    let mut names = gone_to(alloc, index, definition)?;
+    let mentioned = references(alloc, definition)?;
+    names.append(templates_among(alloc, index, mentioned.as_slice())?)?;
+    Ok(names)
+}
+
+/// This of each definition.
+pub(crate) fn leading_of<'t>(
+    alloc: Global,
+    index: &Names<'_>,
+    definitions: &[&'t ToplevelDefinition],
+) -> Mem<List<List<&'t Text>>>
+    ensures { IfOk result (λ lists. map (map (λ n. n.now)) lists ≡ map (leading index.now.definitions.now) (map (λ d. d.now) definitions.now)) }
+{
+    let mut lists = List::new(alloc);
+    for definition in definitions {
+        lists.add(leading(alloc, index, definition)?)?;
+    }
+    Ok(lists)
 }
 
 /// Adds the names that a definition follows, where it isn't gentle.
@@ -92,15 +161,16 @@ fn add_followed<'t>(
     }
 }
 
-/// The names by which a definition leads on: those that it goes on to, and, where it isn't gentle, those that it follows.
-pub(crate) fn leading<'t>(
+/// The names by which one may come to a part of what they stand for, and so to any name in it: those of selections, and, where the
+/// definition isn't gentle, those that it follows.
+pub(crate) fn opening<'t>(
     alloc: Global,
     definition: &'t ToplevelDefinition,
     is_gentle: bool,
 ) -> Mem<List<&'t Text>>
-    ensures { IfOk result (λ names. map (λ n. n.now) names ≡ leading is_gentle definition.now) }
+    ensures { IfOk result (λ names. map (λ n. n.now) names ≡ opening is_gentle definition.now) }
 {
-    let mut names = entered(alloc, definition)?;
+    let mut names = selected(alloc, definition)?;
     add_followed(alloc, &mut names, definition, is_gentle)?;
     Ok(names)
 }

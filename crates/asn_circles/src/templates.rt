@@ -31,7 +31,7 @@ fn is_template(names: &Names<'_>, name: &Text) -> bool
 }
 
 /// Those of the names that stand for templates, in their order.
-fn templates_among<'t>(
+pub(crate) fn templates_among<'t>(
     alloc: Global,
     names: &Names<'_>,
     several: &[&'t Text],

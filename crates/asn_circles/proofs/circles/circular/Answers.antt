@@ -1,7 +1,7 @@
 use Rattle.std.proofs.Common.{◌≡◌, ap, length, map, subst, sym, ◌∙◌, arith}
 use Rattle.std.proofs.lemmas.List.{length-map}
 use Rattle.asn_tree.specs.Calls.{name_of}
-use Rattle.asn_circles.specs.Circles.{templates_among}
+use Rattle.asn_circles.specs.Circles.{leading}
 use Rattle.asn_circles.specs.inner.Nodes.{AreCircular}
 use Rattle.asn_circles.proofs.Circling.{circular_told}
 use Rattle.asn_circles.proofs.Needed.{zip_long}
@@ -29,20 +29,20 @@ circular_nodes-requires-clause-long c =
     let long = c.requires.drawn.long in
     omega (arith, l, lists, long)
 
-pub circular_nodes-requires-clause-templates : goal.circular_nodes-requires-clause-templates
-circular_nodes-requires-clause-templates c =
+pub circular_nodes-requires-clause-on : goal.circular_nodes-requires-clause-on
+circular_nodes-requires-clause-on c =
     let ds = map (λ d. d.now) c.args.standing.now in
     let l : length ds ≡ length c.args.standing.now = length-map c.args.standing.now (λ d. d.now) in
-    let lists = length-map ds (λ d. templates_among c.args.index.now.definitions.now (references_of d)) in
-    let long = c.requires.templates.long in
+    let lists = length-map ds (leading c.args.index.now.definitions.now) in
+    let long = c.requires.on.long in
     omega (arith, l, lists, long)
 
 pub returns : goal.returns
 returns c =
     let ds = map (λ d. d.now) c.args.standing.now in
-    let templates = c.args.templates.now.edges in
+    let on = c.args.on.now.edges in
     let g = c.args.components.now.edges in
-    circular_told c.args.index.now.definitions.now ds c.requires.standing g c.requires.drawn templates c.in_ok-gentle.gentle c.in_ok-marked.marked
-    c.requires.templates c.in_ok-gentle.ensures
-    (subst (λ bs. AreCircular templates g (map name_of ds) ds bs c.in_ok-marked.marked) c.as_slice.ensures
-    (subst (λ ns. AreCircular templates g ns ds c.as_slice.result.now c.in_ok-marked.marked) c.requires.named c.in_ok-marked.ensures))
+    circular_told c.args.index.now.definitions.now ds c.requires.standing g c.requires.drawn on c.in_ok-gentle.gentle c.in_ok-marked.marked
+    c.requires.on c.in_ok-gentle.ensures
+    (subst (λ bs. AreCircular on g (map name_of ds) ds bs c.in_ok-marked.marked) c.as_slice.ensures
+    (subst (λ ns. AreCircular on g ns ds c.as_slice.result.now c.in_ok-marked.marked) c.requires.named c.in_ok-marked.ensures))

@@ -5,5 +5,5 @@ use Rattle.asn_circles.proofs.circles.circular_nodes.Given as goal
 abbrev pub invariant-loop-node : goal.invariant-loop-node
 invariant-loop-node l = record {
   long : length l.marked ≡ l.node;
-  each : CircularSoFar (λ d. d.now) (λ n. n.now) l.templates.edges l.components.edges l.names l.definitions l.gentle l.marked l.node;
+  each : CircularSoFar (λ d. d.now) (λ n. n.now) l.on.edges l.components.edges l.names l.definitions l.gentle l.marked l.node;
 }

@@ -3,7 +3,7 @@ use Rattle.std.proofs.lemmas.List.{length-map}
 use Rattle.std.proofs.lemmas.Simd.{map-map}
 use Rattle.asn_tree.specs.Calls.{name_of}
 use Rattle.asn_graph.specs.Reach.{AreFree}
-use Rattle.asn_circles.specs.Circles.{FreeAre, templates_among}
+use Rattle.asn_circles.specs.Circles.{FreeAre, leading, templates_among}
 use Rattle.asn_circles.proofs.Circling.{as_many, drawn_as, free_are}
 use Rattle.asn_circles.proofs.Needed.{names_ascend, names_through, zip_long}
 use Rattle.asn_name_graph.specs.Drawn.{Ascend}
@@ -34,9 +34,26 @@ components_of-requires-2-clause-long c =
     (ap (map (map (λ n. n.now))) c.as_slice-5.ensures ∙ c.in_ok-mentions.ensures ∙ map-map references_of (λ d. d.now) c.args.standing.now)
     (ap (map (λ n. n.now)) c.as_slice-4.ensures ∙ c.in_ok-all.ensures)
 
+pub components_of-requires-3-clause-ascend : goal.components_of-requires-3-clause-ascend
+components_of-requires-3-clause-ascend c =
+    subst Ascend (sym (ap (map (λ n. n.now)) c.as_slice-6.ensures ∙ c.in_ok-all.ensures)) (names_ascend (λ d. d.now) c.args.names.now.definitions.now c.args.standing.now c.requires)
+
+pub components_of-requires-3-clause-long : goal.components_of-requires-3-clause-long
+components_of-requires-3-clause-long c =
+    as_many (map (λ n. n.now)) (λ n. n.now) c.as_slice-7.result.now c.as_slice-6.result.now c.args.standing.now (λ x. leading c.args.names.now.definitions.now x.now) (λ x. name_of x.now)
+    (ap (map (map (λ n. n.now))) c.as_slice-7.ensures ∙ c.in_ok-leading.ensures ∙ map-map (leading c.args.names.now.definitions.now) (λ d. d.now) c.args.standing.now)
+    (ap (map (λ n. n.now)) c.as_slice-6.ensures ∙ c.in_ok-all.ensures)
+
+pub circular-requires-clause-on : goal.circular-requires-clause-on
+circular-requires-clause-on c =
+    drawn_as c.in_ok-on.on.edges
+    (ap (map (λ n. n.now)) c.as_slice-6.ensures ∙ c.in_ok-all.ensures ∙ sym (names_through (λ d. d.now) c.args.names.now.definitions.now c.args.standing.now c.requires))
+    (ap (map (map (λ n. n.now))) c.as_slice-7.ensures ∙ c.in_ok-leading.ensures)
+    c.in_ok-on.ensures
+
 pub circular-requires-clause-named : goal.circular-requires-clause-named
 circular-requires-clause-named c =
-    ap (map (λ n. n.now)) c.as_slice-6.ensures ∙ c.in_ok-all.ensures ∙ sym (names_through (λ d. d.now) c.args.names.now.definitions.now c.args.standing.now c.requires)
+    ap (map (λ n. n.now)) c.as_slice-8.ensures ∙ c.in_ok-all.ensures ∙ sym (names_through (λ d. d.now) c.args.names.now.definitions.now c.args.standing.now c.requires)
 
 pub circular-requires-clause-templates : goal.circular-requires-clause-templates
 circular-requires-clause-templates c =
@@ -65,7 +82,7 @@ free_nodes-requires c =
     let lists = length-map ds references_of in
     let told = zip_long _ _ c.in_ok-circular.circular c.in_ok-circular.ensures in
     let long = drawn.long in
-    let same = ap length c.as_slice-7.ensures in
+    let same = ap length c.as_slice-9.ensures in
     omega (arith, names, lists, told, long, same)
 
 pub returns : goal.returns
@@ -78,4 +95,4 @@ returns c =
     c.in_ok-components.ensures in
     subst (λ ns. FreeAre defs ns c.in_ok-free.free) (names_through (λ d. d.now) defs c.args.standing.now c.requires)
     (free_are defs ds c.requires c.in_ok-components.components.edges c.in_ok-circular.circular c.in_ok-free.free c.in_ok-circular.ensures drawn
-    (subst (λ bs. AreFree c.in_ok-components.components.edges bs c.in_ok-free.free) c.as_slice-7.ensures c.in_ok-free.ensures))
+    (subst (λ bs. AreFree c.in_ok-components.components.edges bs c.in_ok-free.free) c.as_slice-9.ensures c.in_ok-free.ensures))

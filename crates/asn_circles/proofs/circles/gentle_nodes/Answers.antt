@@ -9,7 +9,7 @@ use Rattle.asn_circles.proofs.circles.gentle_nodes.Goals as goal
 pub free_nodes-requires : goal.free_nodes-requires
 free_nodes-requires c =
     let ds = map (λ d. d.now) c.args.standing.now in
-    let asking : length c.as_slice.result.now ≡ length ds = ap length (c.as_slice.ensures ∙ c.in_ok-asking.ensures) ∙ length-map ds is_asking in
+    let asking : length c.as_slice.result.now ≡ length ds = ap length (c.as_slice.ensures ∙ c.in_ok-asking.ensures) ∙ length-map ds (is_asking c.args.index.now.definitions.now) in
     let lists = length-map ds (λ d. templates_among c.args.index.now.definitions.now (references_of d)) in
     let long = c.requires.drawn.long in
     omega (arith, asking, lists, long)
