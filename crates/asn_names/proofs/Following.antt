@@ -17,7 +17,7 @@ use Rattle.asn_tree.specs.Folds.{constraint_is, constraint_read, element_is, ele
 use Rattle.asn_meaning.specs.Layers.{ValueLayer}
 use Rattle.asn_meaning.specs.Written.{as_written, written_at}
 use Rattle.asn_needs.specs.Basic.{are_basic, basic_at, basic_constraint, basic_element, basic_member, basic_set, basic_struct, has_no_names, is_basic, is_number, IsBasicDefinition}
-use Rattle.asn_references.specs.References.{constraint_names, definition_names, each_name, element_names, followed_of, joined, member_names, name_in, names_in, names_in_constraint, names_in_element, names_in_member, names_in_set, names_in_value, naming, parameter_names, set_names, type_names, value_names}
+use Rattle.asn_references.specs.References.{constraint_names, definition_names, each_name, element_names, followed_of, joined, member_names, name_in, names_in, names_in_constraint, names_in_element, names_in_member, names_in_set, names_in_value, naming, parameter_names, set_names, type_names, value_names, within}
 use Rattle.asn_circles.specs.Circles.{FollowsNoCircle}
 use Rattle.asn_names.specs.Definitions.{Definitions, last_named}
 use Rattle.asn_names.specs.Layers.{ConstraintLayer, ElementLayer, SetLayer, StructLayer, TypeLayer}
@@ -27,7 +27,7 @@ none_of [] h = refl
 none_of (x ∷ names) h = absurd cc
 
 -- names of which none is wanted in itself
-module _ (w : _) (unwanted : (names : List (List ℕ)) → each_name names w ≡ []) where
+module _ (w : _) (unwanted : (names : List (List ℕ)) → each_name names w ≡ []) (nothing : each_name [] (within w) ≡ []) where
   -- ---- ranges of numbers
 
   number_none : (v : ASN1Value) → is_number (as_written v) ≡ true → names_in_value v w ≡ []
@@ -102,12 +102,13 @@ module _ (w : _) (unwanted : (names : List (List ℕ)) → each_name names w ≡
         ap (λ ns. ns ++ joined (map names_in_member ms) w) (member_none m b.0) ∙ members_none ms b.1
 
     struct_none : (s : StructLayer) → basic_struct f s ≡ true →
-        joined (map names_in_member s.members) w ++ s.components_of ++ joined (map names_in_constraint s.constraints) w ≡ []
+        joined (map names_in_member s.members) w ++ each_name s.components_of (within w) ++ joined (map names_in_constraint s.constraints) w ≡ []
     struct_none s h =
         let b = and_parts (has_no_names s.components_of) (list_all (λ m. basic_member f (out-SequenceOrSetMember m)) s.members && are_basic s.constraints) h in
         let c = and_parts (list_all (λ m. basic_member f (out-SequenceOrSetMember m)) s.members) (are_basic s.constraints) b.1 in
-        ap (λ ns. ns ++ s.components_of ++ joined (map names_in_constraint s.constraints) w) (members_none s.members c.0)
-        ∙ ap (λ ns. ns ++ joined (map names_in_constraint s.constraints) w) (none_of s.components_of b.0)
+        ap (λ ns. ns ++ each_name s.components_of (within w) ++ joined (map names_in_constraint s.constraints) w) (members_none s.members c.0)
+        ∙ ap (λ ns. each_name ns (within w) ++ joined (map names_in_constraint s.constraints) w) (none_of s.components_of b.0)
+        ∙ ap (λ ns. ns ++ joined (map names_in_constraint s.constraints) w) nothing
         ∙ constraints_none s.constraints c.1
 
     name_none : (parent : Option (List ℕ)) → name_in parent w ≡ []
@@ -134,7 +135,7 @@ module _ (w : _) (unwanted : (names : List (List ℕ)) → each_name names w ≡
 
 definition_none : (d : ToplevelTypeDefinition) → IsBasicDefinition (TypeDef d) → followed_of (TypeDef d) ≡ []
 unfolding followed_of
-definition_none d b = names_none _ (λ names. refl) d b
+definition_none d b = names_none _ (λ names. refl) refl d b
 
 -- so it leads to no circle by what it follows
 pub basic_follows_none : (defs : Definitions) (name : List ℕ) (d : ToplevelTypeDefinition) → last_named defs name ≡ Some (TypeDef d) → IsBasicDefinition (TypeDef d) → FollowsNoCircle defs name
