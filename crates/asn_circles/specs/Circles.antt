@@ -79,18 +79,18 @@ abbrev pub own_name : TypeLayer → Names
 own_name (ASN1Type-F.ElsewhereDeclaredType x) = path x.parent x.identifier
 own_name _ = []
 
--- The type of a class's field is entered, and no class is: it stands for no type.
-abbrev pub no_classes : Definitions → ASN1Information → Names → Names
-no_classes defs (ObjectClass c) names = filter (λ name. not (is_class defs name)) names
-no_classes defs (ObjectSet s) names = names
-no_classes defs (Object o) names = names
+-- The name of a class stands for no type: where the type of a class's field is one, it is not entered, but where it is another field.
+abbrev pub but_classes : Definitions → ASN1Information → Names → Names → Names
+but_classes defs (ObjectClass c) names asked = filter (λ name. not (is_class defs name)) names ++ asked
+but_classes defs (ObjectSet s) names asked = names
+but_classes defs (Object o) names asked = names
 
 -- The names that whoever looks for what a definition stands for goes on to: the one that its type is, and those that are asked for in
 -- it; of a definition of no type every name that is entered.
 abbrev pub gone_to : Definitions → ToplevelDefinition → Names
 gone_to defs (TypeDef d) = own_name (out-ASN1Type d.ty) ++ asked_of (TypeDef d)
 gone_to defs (Value d) = entered_of (Value d)
-gone_to defs (Information d) = no_classes defs d.value (entered_of (Information d))
+gone_to defs (Information d) = but_classes defs d.value (entered_of (Information d)) (asked_of (Information d))
 
 -- Such a dummy has no governor: it stands for a type or a class (X.683 8.3).
 abbrev pub is_ungoverned : ParameterGovernor → Bool

@@ -164,7 +164,7 @@ fn circular<'t>(
 /// circular. A name is circular where linking changes its definition, and it leads on to itself, or a name by which one may come to any name
 /// is in a circle with it. It leads on by the name that its type is (X.680 clause 17), by those that are asked for in it
 /// (`asn_references::asked`), and by the templates to which it refers (X.683 clause 9); a definition of no type by every name but items of
-/// object sets, and a class by none of a class. One may come to any name by a selection (X.680 clause 30), and, where the definition
+/// object sets, and but a class that is the type of a class's field. One may come to any name by a selection (X.680 clause 30), and, where the definition
 /// refers to a template that asks for what a dummy stands for, at once or through templates, by what it follows
 /// (`asn_references::followed`). `standing` is what `Names::standing` gives of `names`. The work is linear in the names that definitions mention,
 /// but for a search by halves for each, for the dummies of a template, each of which is looked for among its names, and for names that

@@ -1,8 +1,8 @@
 //! The names by which definitions lead on whoever looks for what they stand for.
 
-ghost use Rattle.asn_circles.specs.Circles.{gone_to, leading, no_classes, opening, own_name, path};
+ghost use Rattle.asn_circles.specs.Circles.{but_classes, gone_to, leading, opening, own_name, path};
 ghost use Rattle.asn_meaning.specs.Definitions.{is_class};
-ghost use Rattle.asn_references.specs.References.{entered_of, followed_of};
+ghost use Rattle.asn_references.specs.References.{asked_of, entered_of, followed_of};
 ghost use Rattle.asn_tree.specs.declared.types.ASN1Type.{out-ASN1Type};
 ghost use Rattle.std.specs.Prelude.{◌≡◌, ◌++◌, [], IfOk, OnOk, filter, if◌then◌else◌, map, not};
 
@@ -69,20 +69,22 @@ fn no_classes<'t>(alloc: Global, index: &Names<'_>, several: &[&'t Text]) -> Mem
     Ok(found)
 }
 
-/// What a definition of a class, an object or an object set goes on to: every name that is entered, and of a class none of a class.
+/// What a definition of a class, an object or an object set goes on to: every name that is entered; of a class those that stand for no
+/// class, and those that are asked for.
 fn gone_to_of_information<'t>(
     alloc: Global,
     index: &Names<'_>,
     definition: &'t ToplevelDefinition,
     value: &ASN1Information,
 ) -> Mem<List<&'t Text>>
-    ensures { IfOk result (λ names. map (λ n. n.now) names ≡ no_classes index.now.definitions.now value.now (entered_of definition.now)) }
+    ensures { IfOk result (λ names. map (λ n. n.now) names ≡ but_classes index.now.definitions.now value.now (entered_of definition.now) (asked_of definition.now)) }
 {
     let names = entered(alloc, definition)?;
     match value {
         ASN1Information::ObjectClass(_) => {
-            let names = no_classes(alloc, index, names.as_slice())?;
-            Ok(names)
+            let mut others = no_classes(alloc, index, names.as_slice())?;
+            others.append(asked(alloc, definition)?)?;
+            Ok(others)
         }
         ASN1Information::ObjectSet(_) => Ok(names),
         ASN1Information::Object(_) => Ok(names),
@@ -90,7 +92,7 @@ fn gone_to_of_information<'t>(
 }
 
 /// The names that whoever looks for what a definition stands for goes on to: the one that its type is, and those that are asked for
-/// in it; of a definition of no type every name that is entered, and of a class none of a class.
+/// in it; of a definition of no type every name that is entered, but where the type of a class's field is a class.
 pub(crate) fn gone_to<'t>(
     alloc: Global,
     index: &Names<'_>,
