@@ -1,8 +1,8 @@
 #!/usr/bin/env python3
 """Runs a program on small texts made at random, full of names that lead back to themselves: circles.py PROGRAM FIRST COUNT.
 
-Each text has five types, two templates, two values, a class, an object and an object set, whose names stand in all kinds of places; the
-number of a text makes it. It prints each text that ends with a status beside 0, 1 and 2, or takes longer than a minute, and how many
+Each text has five types, two templates of a type and one of an object set, two values, a class, two objects and an object set, whose
+names stand in all kinds of places; the number of a text makes it. It prints each text that ends with a status beside 0, 1 and 2, or takes longer than a minute, and how many
 ended with each: no such text should be want of memory or stack. The program is given the stack that link.sh asks for.
 """
 
@@ -68,7 +68,7 @@ class Maker:
             lambda: f"{self.random.choice('TU')} {{{self.type(depth - 1, dummies)}}}",
             lambda: f"{self.random.choice('ab')} < {self.name(dummies)}",
             lambda: f"INTEGER{self.constraint(dummies)}",
-            lambda: self.random.choice(("K.&id", "o.&Type", "K.&Type ({S})")),
+            lambda: self.random.choice(("K.&id", "K.&id ({S})", "o.&Type", "K.&Type ({S})", "V {{S}}", "V {{o}}", "V {{p | S}}")),
             lambda: f"OCTET STRING (CONTAINING {self.type(depth - 1, dummies)})",
             lambda: self.struct(depth, dummies),
             lambda: f"CHOICE {{ a {self.type(depth - 1, dummies)}, b {self.type(depth - 1, dummies)} }}",
@@ -80,13 +80,17 @@ class Maker:
         written = self.random.choice(("5", self.value_name(), "{a v, b w}", "{a 5}", "a : v", "o.&id"))
         return f"{name} {governor} ::= {written}"
 
+    def object(self, name):
+        return f"{name} K ::= {{ &id {self.random.choice(('5', 'v'))}, &Type {self.type(1, '')} }}"
+
     def text(self):
         parts = [f"{name} ::= {self.type(3, '')}" for name in TYPES]
         parts += [f"{name} {{X}} ::= {self.type(2, 'X')}" for name in "TU"]
         parts += [self.value(name) for name in VALUES]
-        parts.append(f"K ::= CLASS {{ &id {self.type(1, '')}, &Type OPTIONAL }}")
-        parts.append(f"o K ::= {{ &id {self.random.choice(('5', 'v'))}, &Type {self.type(1, '')} }}")
-        parts.append("S K ::= { o, ... }")
+        parts.append(self.random.choice(("V {K: Z} ::= SEQUENCE { a K.&id ({Z}), b K.&Type ({Z}{@a}) }", "V {K: Z} ::= SEQUENCE OF K.&Type ({Z})")))
+        parts.append(f"K ::= CLASS {{ &id {self.type(1, '')}, &Type OPTIONAL, &k {self.random.choice(('K', 'K.&id', 'NULL'))} OPTIONAL }}")
+        parts += [self.object(name) for name in "op"]
+        parts.append(f"S K ::= {{ {self.random.choice(('o', 'o | p', '{&id 5, &Type A}', '{&id 5, &Type B} | o'))}, ... }}")
         self.random.shuffle(parts)
         return f"M DEFINITIONS ::= BEGIN {' '.join(parts)} END\n"
 
