@@ -2,9 +2,9 @@
 //!
 //! A room above the index of names (asn_index), the names in a definition (asn_references) and the graph of names (asn_name_graph): the
 //! definitions that stand are numbered in their order, and each name that one mentions is an edge. A circle counts where linking changes
-//! a definition in it, and goes on from it by a name by which the definition leads on whoever looks for what it stands for. A template
-//! that merely puts its arguments in place leads on to none of them. Of a definition in which linking puts nothing in less is asked:
-//! whether a name that it follows leads to a circle.
+//! a definition in it, and where it goes by names alone by which definitions lead on whoever looks for what they stand for, or through a
+//! name by which one may come to any other, as a selection's. A template that merely puts its arguments in place leads on to none of them.
+//! Of a definition in which linking puts nothing in less is asked: whether a name that it follows leads to a circle.
 #![tactic(auto)]
 
 mod asking;
