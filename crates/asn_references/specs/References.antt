@@ -424,3 +424,7 @@ asked_of d = definition_names d Asked
 -- Those of selections alone.
 unfoldable pub selected_of : ToplevelDefinition → Names
 selected_of d = definition_names d Selected
+
+-- Every such name in a value.
+abbrev pub references_in_value : ASN1Value → Names
+references_in_value v = names_in_value v Every

@@ -1,4 +1,4 @@
-//! The names in a definition that stand where a reference may stand, of whatever kind.
+//! The names in a definition, or in a value, that stand where a reference may stand, of whatever kind.
 //!
 //! It stands on the trees, borrows them, copies no text, and looks no name up. The layer above asks it where a definition may
 //! lead: all names of one, or those that are entered, followed, asked for or selected.
@@ -13,3 +13,4 @@ mod values;
 mod wanted;
 
 pub use definitions::{asked, entered, followed, references, selected};
+pub use values::value_references;

@@ -1,14 +1,15 @@
 //! The names in values (X.680 clauses 16 to 44).
 
-ghost use Rattle.asn_references.specs.References.{joined, names_in_linked, names_in_value, present};
+ghost use Rattle.asn_references.specs.References.{joined, names_in_linked, names_in_value, present, references_in_value};
 ghost use Rattle.std.specs.Option.{option_map};
-ghost use Rattle.std.specs.Prelude.{◌≡◌, ◌++◌, OnOk, map};
+ghost use Rattle.std.specs.Prelude.{◌≡◌, ◌++◌, IfOk, OnOk, map};
 
 use crate::names::{add_arcs, add_name, add_names, add_optional_name, add_path};
 use crate::types::add_type;
 use crate::wanted::Wanted;
 use asn_memory::{Box, List, Mem, Text};
 use asn_tree::{ASN1Value, LinkedField, StructLikeFieldValue};
+use std::alloc::Global;
 
 /// Adds the names in a value.
 #[cycle(naming)]
@@ -136,4 +137,19 @@ fn add_linked<'t>(out: &mut List<&'t Text>, field: &'t LinkedField, wanted: Want
         StructLikeFieldValue::Explicit(value) => add_value(out, value.get(), wanted),
         StructLikeFieldValue::Implicit(value) => add_value(out, value.get(), wanted),
     }
+}
+
+/// Every name in a value that may be a reference, in order and as often as it stands: of values, of both parts of a path and of arcs,
+/// and of the types that a linked value names. An item of an enumeration, a named bit, a named number or a dummy that is written as such a
+/// name is among them.
+///
+/// # Errors
+///
+/// Want of memory alone.
+pub fn value_references<'t>(alloc: Global, value: &'t ASN1Value) -> Mem<List<&'t Text>>
+    ensures { IfOk result (λ names. map (λ n. n.now) names ≡ references_in_value value.now) }
+{
+    let mut names = List::new(alloc);
+    add_value(&mut names, value, Wanted::Every)?;
+    Ok(names)
 }
