@@ -1,4 +1,5 @@
 mod Holding
+pub mod Spanning
 pub mod Scoping
 pub mod Listing
 pub mod Fields

@@ -8,6 +8,7 @@ pub mod Values
 pub mod Objects
 pub mod Leads
 pub mod Circles
+pub mod Spans
 pub mod Tokens
 pub mod Following
 pub mod inner

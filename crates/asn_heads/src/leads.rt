@@ -6,6 +6,7 @@ ghost use Rattle.asn_heads.specs.Scopes.{shown};
 ghost use Rattle.asn_meaning.specs.Judge.{meaning};
 ghost use Rattle.asn_heads.specs.Kinds.{shown_type};
 ghost use Rattle.asn_heads.specs.Leads.{option_target};
+ghost use Rattle.asn_heads.specs.Spans.{further};
 ghost use Rattle.asn_meaning.specs.Answers.{once};
 ghost use Rattle.asn_meaning.specs.Kinds.{kind_of_type};
 ghost use Rattle.asn_meaning.specs.Names.{field_lead, head_named, lead, leading, option_named, options_in, options_of, selection_target};
@@ -20,6 +21,7 @@ use crate::kinds::{Kind, Reference, TypeForm, kind_of};
 use crate::names::reference_target;
 use crate::places::{Place, Target};
 use crate::scopes::Scope;
+use crate::spans::Span;
 use asn_index::Names;
 use asn_memory::{Mem, OutOfMemory, Text};
 use asn_tree::{ChoiceOption, ChoiceSelectionType};
@@ -106,16 +108,17 @@ fn selected<'a>(head: Place<'a>, name: &str) -> Option<Target<'a>>
 /// Err: want of memory.
 #[cycle(heading)]
 #[tactic(auto, using(crate::proofs::Leading::selection_of_none, crate::proofs::Leading::selection_of_head))]
-pub fn selection_target<'a>(
+pub fn selection_target_over<'a>(
     alloc: Global,
     names: &Names<'a>,
+    span: Span,
     steps: usize,
     scope: &Scope<'a>,
     selection: &'a ChoiceSelectionType,
 ) -> Mem<Option<Target<'a>>>
-    ensures { IfOk result (λ target. (m : ℕ) → option_map shown_target target ≡ selection_target (meaning names.now.definitions.now (steps + m)) (shown scope.now) selection.now) }
+    ensures { IfOk result (λ target. (m : ℕ) → option_map shown_target target ≡ selection_target (meaning names.now.definitions.now (steps + further span m)) (shown scope.now) selection.now) }
 {
-    match head_named(alloc, names, steps, scope, &selection.choice_name)? {
+    match head_named_over(alloc, names, span, steps, scope, &selection.choice_name)? {
         None => Ok(None),
         Some(head) => Ok(selected(head, selection.selected_option.as_str())),
     }
@@ -126,13 +129,14 @@ pub fn selection_target<'a>(
 ///
 /// Err: want of memory.
 #[cycle(heading)]
-pub fn lead_of<'a>(
+pub fn lead_over<'a>(
     alloc: Global,
     names: &Names<'a>,
+    span: Span,
     steps: usize,
     place: &Place<'a>,
 ) -> Mem<Lead<'a>>
-    ensures { IfOk result (λ l. (m : ℕ) → shown_lead l ≡ lead names.now.definitions.now (meaning names.now.definitions.now (steps + m)) (shown_place place.now)) }
+    ensures { IfOk result (λ l. (m : ℕ) → shown_lead l ≡ lead names.now.definitions.now (meaning names.now.definitions.now (steps + further span m)) (shown_place place.now)) }
 {
     match kind_of(place.ty) {
         Kind::Reference(reference) => {
@@ -140,7 +144,7 @@ pub fn lead_of<'a>(
             Ok(leading(target))
         }
         Kind::Selection(selection) => {
-            let target = selection_target(alloc, names, steps, &place.scope, selection)?;
+            let target = selection_target_over(alloc, names, span, steps, &place.scope, selection)?;
             Ok(leading(target))
         }
         Kind::Field(field) => {
@@ -170,47 +174,52 @@ pub fn lead_of<'a>(
 /// None: the type has no head, however many steps there are, since a name leads nowhere, or is one that leads back to itself whatever
 /// its arguments. Err: want of memory, also where the steps are used up.
 #[cycle(heading)]
-#[tactic(auto, using(crate::proofs::Leading::head_is, crate::proofs::Leading::head_beyond, crate::proofs::Leading::head_lost, crate::proofs::Circling::lost_headless))]
-pub fn head<'a>(
+#[tactic(auto, using(crate::proofs::Leading::head_is, crate::proofs::Leading::head_beyond, crate::proofs::Leading::head_lost, crate::proofs::Circling::lost_headless, crate::proofs::Spanning::no_head))]
+pub fn head_over<'a>(
     alloc: Global,
     names: &Names<'a>,
+    span: Span,
     steps: usize,
     place: &Place<'a>,
 ) -> Mem<Option<Place<'a>>>
-    ensures { IfOk result (λ found. (m : ℕ) → option_map shown_place found ≡ (meaning names.now.definitions.now (steps + m)).head (shown_place place.now)) }
+    ensures { IfOk result (λ found. (m : ℕ) → option_map shown_place found ≡ (meaning names.now.definitions.now (steps + further span m)).head (shown_place place.now)) }
 {
     let mut at = place.copy(alloc)?;
     for left in (0..steps).rev() {
         if is_lost(names, &at, steps - left) {
             return Ok(None);
         }
-        match lead_of(alloc, names, left, &at)? {
+        match lead_over(alloc, names, span, left, &at)? {
             Lead::Head => return Ok(Some(at)),
             Lead::Target(target) => at = target.place,
             Lead::Lost => return Ok(None),
         }
     }
-    Err(OutOfMemory)
+    match span {
+        Span::Further => Err(OutOfMemory),
+        Span::These => Ok(None),
+    }
 }
 
 /// The head of a type that a name stands for.
 ///
 /// Err: want of memory.
 #[cycle(heading)]
-pub fn head_named<'a>(
+pub fn head_named_over<'a>(
     alloc: Global,
     names: &Names<'a>,
+    span: Span,
     steps: usize,
     scope: &Scope<'a>,
     name: &'a Text,
 ) -> Mem<Option<Place<'a>>>
-    ensures { IfOk result (λ found. (m : ℕ) → option_map shown_place found ≡ head_named (meaning names.now.definitions.now (steps + m)) (shown scope.now) name.now) }
+    ensures { IfOk result (λ found. (m : ℕ) → option_map shown_place found ≡ head_named (meaning names.now.definitions.now (steps + further span m)) (shown scope.now) name.now) }
 {
     let scope = scope.copy(alloc)?;
     let place = Place {
         scope,
         ty: TypeForm::Reference(Reference::Named(name)),
     };
-    let found = head(alloc, names, steps, &place)?;
+    let found = head_over(alloc, names, span, steps, &place)?;
     Ok(found)
 }

@@ -6,7 +6,8 @@ ghost use Rattle.std.specs.Prelude.{◌≡◌, ◌≤◌, ◌+◌, ◌++◌, ◌
 ghost use Rattle.std.specs.Option.{option_map};
 
 use crate::circles::is_lost;
-use crate::leads::{Lead, lead_of};
+use crate::further::lead_of;
+use crate::leads::Lead;
 use crate::places::{Place, Target};
 use asn_index::Names;
 use asn_memory::{List, Mem, OutOfMemory};

@@ -10,7 +10,7 @@ use Rattle.asn_shapes.specs.Parts.{alternative_in, elements_in, fields_in}
 use Rattle.asn_shapes.specs.Trees.{Named, shown_tree, shown_trees}
 use Rattle.asn_meaning.specs.Answers.{Answer, Yes, No, Unknown, answer_of, both, each, once}
 use Rattle.asn_meaning.specs.Definitions.{Definitions}
-use Rattle.asn_meaning.specs.Judge.{meaning, step}
+use Rattle.asn_meaning.specs.Judge.{meaning, nothing_known, step}
 use Rattle.asn_meaning.specs.Kinds.{kind_of}
 use Rattle.asn_meaning.specs.Layers.{OptionLayer}
 use Rattle.asn_meaning.specs.Meaning.{Meaning, Member}
@@ -27,6 +27,13 @@ fits_at_suc defs n k p t more = ap (λ i. (meaning defs i).fits p t) more
 
 pub fits_at_more : (defs : Definitions) (n m : ℕ) (p : Place) (t : ValueTree) → 0 < n → (meaning defs (n + m)).fits p t ≡ fits_at (meaning defs (n - 1 + m)) p t
 fits_at_more defs n m p t lt = fits_at_suc defs (n + m) (n - 1 + m) p t (omega arith)
+
+-- Within no steps nothing is known.
+pub fits_not : (defs : Definitions) (n m : ℕ) (p : Place) (t : ValueTree) → n ≡ 0 → m ≡ 0 → (meaning defs (n + m)).fits p t ≡ Unknown
+unfolding meaning nothing_known
+fits_not defs n m p t e f =
+    let none : n + m ≡ 0 = omega arith in
+    ap (λ k. (meaning defs k).fits p t) none
 
 -- ---- heads
 

@@ -7,7 +7,7 @@ use Rattle.asn_shapes.specs.declared.members.Member.{Member as LentMember}
 use Rattle.asn_shapes.specs.Members.{shown_member, shown_members}
 use Rattle.asn_meaning.specs.Answers.{once}
 use Rattle.asn_meaning.specs.Definitions.{Definitions}
-use Rattle.asn_meaning.specs.Judge.{meaning, step}
+use Rattle.asn_meaning.specs.Judge.{meaning, nothing_known, step}
 use Rattle.asn_meaning.specs.Layers.{StructLayer}
 use Rattle.asn_meaning.specs.Meaning.{Meaning, Member}
 use Rattle.asn_meaning.specs.Members.{and_then, components_of, members_at, members_from, members_of, moved, put_in, root_members, written_member}
@@ -199,3 +199,10 @@ members_at_suc defs n k scope x more = ap (λ i. (meaning defs i).members scope 
 pub members_at_more : (defs : Definitions) (n m : ℕ) (scope : Scope) (x : StructLayer) → 0 < n →
     (meaning defs (n + m)).members scope x ≡ members_at (meaning defs (n - 1 + m)) scope x
 members_at_more defs n m scope x lt = members_at_suc defs (n + m) (n - 1 + m) scope x (omega arith)
+
+-- Within no steps nothing has members.
+pub no_members : (defs : Definitions) (n m : ℕ) (scope : Scope) (x : StructLayer) → n ≡ 0 → m ≡ 0 → (meaning defs (n + m)).members scope x ≡ None
+unfolding meaning nothing_known
+no_members defs n m scope x e f =
+    let none : n + m ≡ 0 = omega arith in
+    ap (λ k. (meaning defs k).members scope x) none

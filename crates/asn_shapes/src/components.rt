@@ -3,6 +3,7 @@
 ghost use Rattle.asn_shapes.specs.Members.{shown_member, shown_members};
 ghost use Rattle.asn_heads.specs.Places.{shown_place};
 ghost use Rattle.asn_heads.specs.Scopes.{shown};
+ghost use Rattle.asn_heads.specs.Spans.{further};
 ghost use Rattle.asn_meaning.specs.Judge.{meaning};
 ghost use Rattle.asn_meaning.specs.Members.{components_of, is_addition_at, members_at, members_of, moved, put_in, root_members, written_member};
 ghost use Rattle.asn_tree.specs.declared.types.SequenceOrSet.{out-SequenceOrSet};
@@ -10,7 +11,7 @@ ghost use Rattle.std.specs.Option.{option_map};
 ghost use Rattle.std.specs.Prelude.{◌≡◌, ◌<◌, ◌+◌, ◌++◌, ◌∷◌, [], ℕ, get_or, if◌then◌else◌, length, nat_eq, IfOk, Some, map};
 
 use crate::members::Member;
-use asn_heads::{Kind, Place, Scope, head_named, kind_of};
+use asn_heads::{Kind, Place, Scope, Span, head_named_over, kind_of};
 use asn_index::Names;
 use asn_memory::{List, Mem, OutOfMemory, Text};
 use asn_tree::{SequenceOrSet, SequenceOrSetMember};
@@ -105,23 +106,27 @@ fn moved_roots<'a>(alloc: Global, among: bool, members: &[Member<'a>]) -> Mem<Li
 /// The members of a SEQUENCE or SET: the written ones, with the root members of each COMPONENTS OF at its place (X.680 25.5).
 /// They are found within these steps, and stay the same within more.
 ///
-/// None: a name leads nowhere, or to a type of another kind, however many steps there are. Err: want of memory, also where the
-/// steps are used up.
+/// None: a name leads nowhere, or to a type of another kind, however many steps there are; or, over these steps alone, they are used up.
+/// Err: want of memory, over further steps also where these are used up.
 #[cycle(membering)]
-#[tactic(auto, using(crate::proofs::Putting::members_at_more))]
-pub fn struct_members<'a>(
+#[tactic(auto, using(crate::proofs::Putting::members_at_more, crate::proofs::Putting::no_members))]
+pub fn struct_members_over<'a>(
     alloc: Global,
     names: &Names<'a>,
+    span: Span,
     steps: usize,
     scope: &Scope<'a>,
     layer: &'a SequenceOrSet,
 ) -> Mem<Option<List<Member<'a>>>>
-    ensures { IfOk result (λ found. (m : ℕ) → option_map shown_members found ≡ (meaning names.now.definitions.now (steps + m)).members (shown scope.now) (out-SequenceOrSet layer.now)) }
+    ensures { IfOk result (λ found. (m : ℕ) → option_map shown_members found ≡ (meaning names.now.definitions.now (steps + further span m)).members (shown scope.now) (out-SequenceOrSet layer.now)) }
 {
     if steps == 0 {
-        return Err(OutOfMemory);
+        return match span {
+            Span::Further => Err(OutOfMemory),
+            Span::These => Ok(None),
+        };
     }
-    let found = members_at(alloc, names, steps - 1, scope, layer)?;
+    let found = members_at(alloc, names, span, steps - 1, scope, layer)?;
     Ok(found)
 }
 
@@ -131,15 +136,16 @@ pub fn struct_members<'a>(
 fn members_at<'a>(
     alloc: Global,
     names: &Names<'a>,
+    span: Span,
     steps: usize,
     scope: &Scope<'a>,
     layer: &'a SequenceOrSet,
 ) -> Mem<Option<List<Member<'a>>>>
-    ensures { IfOk result (λ found. (m : ℕ) → option_map shown_members found ≡ members_at (meaning names.now.definitions.now (steps + m)) (shown scope.now) (out-SequenceOrSet layer.now)) }
+    ensures { IfOk result (λ found. (m : ℕ) → option_map shown_members found ≡ members_at (meaning names.now.definitions.now (steps + further span m)) (shown scope.now) (out-SequenceOrSet layer.now)) }
 {
     let mut members = List::new(alloc);
     for number in 0..layer.members.len() {
-        match put_in(alloc, names, steps, scope, layer, number)? {
+        match put_in(alloc, names, span, steps, scope, layer, number)? {
             None => return Ok(None),
             Some(others) => {
                 members = joined(members, others)?;
@@ -149,7 +155,7 @@ fn members_at<'a>(
             }
         }
     }
-    match put_in(alloc, names, steps, scope, layer, layer.members.len())? {
+    match put_in(alloc, names, span, steps, scope, layer, layer.members.len())? {
         None => Ok(None),
         Some(others) => {
             let all = joined(members, others)?;
@@ -172,12 +178,13 @@ fn place_at(places: &[(usize, bool)], number: usize) -> (usize, bool)
 fn put_in<'a>(
     alloc: Global,
     names: &Names<'a>,
+    span: Span,
     steps: usize,
     scope: &Scope<'a>,
     layer: &'a SequenceOrSet,
     number: usize,
 ) -> Mem<Option<List<Member<'a>>>>
-    ensures { IfOk result (λ found. (m : ℕ) → option_map shown_members found ≡ put_in (meaning names.now.definitions.now (steps + m)) (shown scope.now) number (out-SequenceOrSet layer.now).components_of (out-SequenceOrSet layer.now).components_at) }
+    ensures { IfOk result (λ found. (m : ℕ) → option_map shown_members found ≡ put_in (meaning names.now.definitions.now (steps + further span m)) (shown scope.now) number (out-SequenceOrSet layer.now).components_of (out-SequenceOrSet layer.now).components_at) }
 {
     let included = layer.components_of.as_slice();
     let places = layer.components_at.as_slice();
@@ -187,7 +194,7 @@ fn put_in<'a>(
             return Ok(Some(members));
         }
         let at = place_at(places, i);
-        match put_at(alloc, names, steps, scope, &included[i], at, number)? {
+        match put_at(alloc, names, span, steps, scope, &included[i], at, number)? {
             None => return Ok(None),
             Some(others) => {
                 let all = joined(members, others)?;
@@ -203,16 +210,17 @@ fn put_in<'a>(
 fn put_at<'a>(
     alloc: Global,
     names: &Names<'a>,
+    span: Span,
     steps: usize,
     scope: &Scope<'a>,
     name: &'a Text,
     at: (usize, bool),
     number: usize,
 ) -> Mem<Option<List<Member<'a>>>>
-    ensures { IfOk result (λ found. (m : ℕ) → option_map shown_members found ≡ (if nat_eq at.0 number then components_of (meaning names.now.definitions.now (steps + m)) (shown scope.now) at.1 name.now else Some [])) }
+    ensures { IfOk result (λ found. (m : ℕ) → option_map shown_members found ≡ (if nat_eq at.0 number then components_of (meaning names.now.definitions.now (steps + further span m)) (shown scope.now) at.1 name.now else Some [])) }
 {
     if at.0 == number {
-        let found = components_of(alloc, names, steps, scope, at.1, name)?;
+        let found = components_of(alloc, names, span, steps, scope, at.1, name)?;
         Ok(found)
     } else {
         Ok(Some(List::new(alloc)))
@@ -226,16 +234,17 @@ fn put_at<'a>(
 fn components_of<'a>(
     alloc: Global,
     names: &Names<'a>,
+    span: Span,
     steps: usize,
     scope: &Scope<'a>,
     among: bool,
     name: &'a Text,
 ) -> Mem<Option<List<Member<'a>>>>
-    ensures { IfOk result (λ found. (m : ℕ) → option_map shown_members found ≡ components_of (meaning names.now.definitions.now (steps + m)) (shown scope.now) among name.now) }
+    ensures { IfOk result (λ found. (m : ℕ) → option_map shown_members found ≡ components_of (meaning names.now.definitions.now (steps + further span m)) (shown scope.now) among name.now) }
 {
-    match head_named(alloc, names, steps, scope, name)? {
+    match head_named_over(alloc, names, span, steps, scope, name)? {
         None => Ok(None),
-        Some(head) => match members_of(alloc, names, steps, &head)? {
+        Some(head) => match members_over(alloc, names, span, steps, &head)? {
             None => Ok(None),
             Some(members) => {
                 let roots = moved_roots(alloc, among, members.as_slice())?;
@@ -249,17 +258,18 @@ fn components_of<'a>(
 ///
 /// None and Err: as `struct_members`; None for a head of another kind too.
 #[cycle(membering)]
-pub fn members_of<'a>(
+pub fn members_over<'a>(
     alloc: Global,
     names: &Names<'a>,
+    span: Span,
     steps: usize,
     head: &Place<'a>,
 ) -> Mem<Option<List<Member<'a>>>>
-    ensures { IfOk result (λ found. (m : ℕ) → option_map shown_members found ≡ members_of (meaning names.now.definitions.now (steps + m)) (shown_place head.now)) }
+    ensures { IfOk result (λ found. (m : ℕ) → option_map shown_members found ≡ members_of (meaning names.now.definitions.now (steps + further span m)) (shown_place head.now)) }
 {
     match kind_of(head.ty) {
         Kind::Struct(layer) => {
-            let found = struct_members(alloc, names, steps, &head.scope, layer)?;
+            let found = struct_members_over(alloc, names, span, steps, &head.scope, layer)?;
             Ok(found)
         }
         Kind::Null => Ok(None),

@@ -3,6 +3,7 @@
 ghost use Rattle.asn_heads.specs.Kinds.{shown_kind};
 ghost use Rattle.asn_heads.specs.Places.{shown_place};
 ghost use Rattle.asn_heads.specs.Scopes.{shown};
+ghost use Rattle.asn_heads.specs.Spans.{further};
 ghost use Rattle.asn_shapes.specs.Answers.{known};
 ghost use Rattle.asn_shapes.specs.inner.Fitting.{member_fits, option_fits, type_fits};
 ghost use Rattle.asn_shapes.specs.Members.{shown_member, shown_members};
@@ -16,11 +17,11 @@ ghost use Rattle.std.specs.Prelude.{◌≡◌, IfOk, ℕ, ◌+◌};
 
 use crate::answers::Answer;
 use crate::by_name::{FieldsByName, MembersByName};
-use crate::components::struct_members;
+use crate::components::struct_members_over;
 use crate::members::Member;
 use crate::parts::{alternative_of, elements_of, fields_of, is_of_kind};
 use crate::trees::{Field, Tree};
-use asn_heads::{Kind, Place, Scope, TypeForm, head, kind_of, option_named};
+use asn_heads::{Kind, Place, Scope, Span, TypeForm, head_over, kind_of, option_named};
 use asn_index::Names;
 use asn_memory::{Mem, OutOfMemory};
 use asn_tree::{ASN1Type, ChoiceOption, SequenceOrSet};
@@ -28,23 +29,27 @@ use std::alloc::Global;
 
 /// Whether a tree fits a type. It is found within these steps, and stays the same within more.
 ///
-/// Unknown: a name leads nowhere, or to a type of another kind, however many steps there are. Err: want of memory, also where
-/// the steps are used up.
+/// Unknown: a name leads nowhere, or to a type of another kind, however many steps there are; or, over these steps alone, they are used
+/// up. Err: want of memory, over further steps also where these are used up.
 #[cycle(fitting)]
-#[tactic(auto, using(crate::proofs::Judging::fits_at_more))]
-pub fn fits<'a>(
+#[tactic(auto, using(crate::proofs::Judging::fits_at_more, crate::proofs::Judging::fits_not))]
+pub fn fits_over<'a>(
     alloc: Global,
     names: &Names<'a>,
+    span: Span,
     steps: usize,
     place: &Place<'a>,
     tree: &Tree,
 ) -> Mem<Answer>
-    ensures { IfOk result (λ answer. (m : ℕ) → known answer ≡ (meaning names.now.definitions.now (steps + m)).fits (shown_place place.now) (shown_tree tree.now)) }
+    ensures { IfOk result (λ answer. (m : ℕ) → known answer ≡ (meaning names.now.definitions.now (steps + further span m)).fits (shown_place place.now) (shown_tree tree.now)) }
 {
     if steps == 0 {
-        return Err(OutOfMemory);
+        return match span {
+            Span::Further => Err(OutOfMemory),
+            Span::These => Ok(Answer::Unknown),
+        };
     }
-    let answer = fits_at(alloc, names, steps - 1, place, tree)?;
+    let answer = fits_at(alloc, names, span, steps - 1, place, tree)?;
     Ok(answer)
 }
 
@@ -54,16 +59,17 @@ pub fn fits<'a>(
 fn fits_at<'a>(
     alloc: Global,
     names: &Names<'a>,
+    span: Span,
     steps: usize,
     place: &Place<'a>,
     tree: &Tree,
 ) -> Mem<Answer>
-    ensures { IfOk result (λ answer. (m : ℕ) → known answer ≡ fits_at (meaning names.now.definitions.now (steps + m)) (shown_place place.now) (shown_tree tree.now)) }
+    ensures { IfOk result (λ answer. (m : ℕ) → known answer ≡ fits_at (meaning names.now.definitions.now (steps + further span m)) (shown_place place.now) (shown_tree tree.now)) }
 {
-    match head(alloc, names, steps, place)? {
+    match head_over(alloc, names, span, steps, place)? {
         None => Ok(Answer::Unknown),
         Some(found) => {
-            let answer = head_fits(alloc, names, steps, &found, tree)?;
+            let answer = head_fits(alloc, names, span, steps, &found, tree)?;
             Ok(answer)
         }
     }
@@ -75,17 +81,18 @@ fn fits_at<'a>(
 fn head_fits<'a>(
     alloc: Global,
     names: &Names<'a>,
+    span: Span,
     steps: usize,
     place: &Place<'a>,
     tree: &Tree,
 ) -> Mem<Answer>
-    ensures { IfOk result (λ answer. (m : ℕ) → known answer ≡ head_fits (meaning names.now.definitions.now (steps + m)) (shown_tree tree.now) (shown_place place.now)) }
+    ensures { IfOk result (λ answer. (m : ℕ) → known answer ≡ head_fits (meaning names.now.definitions.now (steps + further span m)) (shown_tree tree.now) (shown_place place.now)) }
 {
     let kind = kind_of(place.ty);
     match is_of_kind(kind, tree) {
         Some(fits) => Ok(Answer::of(fits)),
         None => {
-            let answer = parts_fit(alloc, names, steps, &place.scope, kind, tree)?;
+            let answer = parts_fit(alloc, names, span, steps, &place.scope, kind, tree)?;
             Ok(answer)
         }
     }
@@ -96,25 +103,26 @@ fn head_fits<'a>(
 fn parts_fit<'a>(
     alloc: Global,
     names: &Names<'a>,
+    span: Span,
     steps: usize,
     scope: &Scope<'a>,
     kind: Kind<'a>,
     tree: &Tree,
 ) -> Mem<Answer>
-    ensures { IfOk result (λ answer. (m : ℕ) → known answer ≡ parts_fit (meaning names.now.definitions.now (steps + m)) (shown scope.now) (shown_tree tree.now) (shown_kind kind.entry)) }
+    ensures { IfOk result (λ answer. (m : ℕ) → known answer ≡ parts_fit (meaning names.now.definitions.now (steps + further span m)) (shown scope.now) (shown_tree tree.now) (shown_kind kind.entry)) }
 {
     match kind {
         Kind::Struct(layer) => {
-            let answer = struct_fits(alloc, names, steps, scope, layer, tree)?;
+            let answer = struct_fits(alloc, names, span, steps, scope, layer, tree)?;
             Ok(answer)
         }
         Kind::List(ty) => {
-            let answer = list_fits(alloc, names, steps, scope, ty, tree)?;
+            let answer = list_fits(alloc, names, span, steps, scope, ty, tree)?;
             Ok(answer)
         }
         Kind::Choice(options) => {
             let options = options.as_slice();
-            let answer = choice_fits(alloc, names, steps, scope, options, tree)?;
+            let answer = choice_fits(alloc, names, span, steps, scope, options, tree)?;
             Ok(answer)
         }
         Kind::Null => Ok(Answer::Unknown),
@@ -140,20 +148,21 @@ fn parts_fit<'a>(
 fn struct_fits<'a>(
     alloc: Global,
     names: &Names<'a>,
+    span: Span,
     steps: usize,
     scope: &Scope<'a>,
     layer: &'a SequenceOrSet,
     tree: &Tree,
 ) -> Mem<Answer>
-    ensures { IfOk result (λ answer. (m : ℕ) → known answer ≡ struct_judged (member_fits (meaning names.now.definitions.now (steps + m))) ((meaning names.now.definitions.now (steps + m)).members (shown scope.now) (out-SequenceOrSet layer.now)) (shown_tree tree.now)) }
+    ensures { IfOk result (λ answer. (m : ℕ) → known answer ≡ struct_judged (member_fits (meaning names.now.definitions.now (steps + further span m))) ((meaning names.now.definitions.now (steps + further span m)).members (shown scope.now) (out-SequenceOrSet layer.now)) (shown_tree tree.now)) }
 {
     match fields_of(tree) {
         None => Ok(Answer::No),
-        Some(fields) => match struct_members(alloc, names, steps, scope, layer)? {
+        Some(fields) => match struct_members_over(alloc, names, span, steps, scope, layer)? {
             None => Ok(Answer::Unknown),
             Some(members) => {
                 let members = members.as_slice();
-                let answer = fields_fit(alloc, names, steps, members, fields)?;
+                let answer = fields_fit(alloc, names, span, steps, members, fields)?;
                 Ok(answer)
             }
         },
@@ -165,16 +174,17 @@ fn struct_fits<'a>(
 fn fields_fit<'a>(
     alloc: Global,
     names: &Names<'a>,
+    span: Span,
     steps: usize,
     members: &[Member<'a>],
     fields: &[Field],
 ) -> Mem<Answer>
-    ensures { IfOk result (λ answer. (m : ℕ) → known answer ≡ fields_judged (member_fits (meaning names.now.definitions.now (steps + m))) (shown_fields fields.now) (shown_members members.now)) }
+    ensures { IfOk result (λ answer. (m : ℕ) → known answer ≡ fields_judged (member_fits (meaning names.now.definitions.now (steps + further span m))) (shown_fields fields.now) (shown_members members.now)) }
 {
     let members_by_name = MembersByName::new(alloc, members)?;
     let named = Answer::of(members_by_name.has_members_for(fields));
     let fields_by_name = FieldsByName::new(alloc, fields)?;
-    let answer = members_fit(alloc, names, steps, members, &fields_by_name)?;
+    let answer = members_fit(alloc, names, span, steps, members, &fields_by_name)?;
     Ok(named.and(answer))
 }
 
@@ -184,15 +194,16 @@ fn fields_fit<'a>(
 fn members_fit<'a>(
     alloc: Global,
     names: &Names<'a>,
+    span: Span,
     steps: usize,
     members: &[Member<'a>],
     fields: &FieldsByName<'_>,
 ) -> Mem<Answer>
-    ensures { IfOk result (λ answer. (m : ℕ) → known answer ≡ each (λ member. member_judged (member_fits (meaning names.now.definitions.now (steps + m))) member (field_named (shown_fields fields.now.fields.now) member.written.name)) (shown_members members.now)) }
+    ensures { IfOk result (λ answer. (m : ℕ) → known answer ≡ each (λ member. member_judged (member_fits (meaning names.now.definitions.now (steps + further span m))) member (field_named (shown_fields fields.now.fields.now) member.written.name)) (shown_members members.now)) }
 {
     let mut answer = Answer::Yes;
     for member in members {
-        let one = member_fits(alloc, names, steps, member, fields)?;
+        let one = member_fits(alloc, names, span, steps, member, fields)?;
         answer = answer.and(one);
     }
     Ok(answer)
@@ -203,17 +214,18 @@ fn members_fit<'a>(
 fn member_fits<'a>(
     alloc: Global,
     names: &Names<'a>,
+    span: Span,
     steps: usize,
     member: &Member<'a>,
     fields: &FieldsByName<'_>,
 ) -> Mem<Answer>
-    ensures { IfOk result (λ answer. (m : ℕ) → known answer ≡ member_judged (member_fits (meaning names.now.definitions.now (steps + m))) (shown_member member.now) (field_named (shown_fields fields.now.fields.now) (shown_member member.now).written.name)) }
+    ensures { IfOk result (λ answer. (m : ℕ) → known answer ≡ member_judged (member_fits (meaning names.now.definitions.now (steps + further span m))) (shown_member member.now) (field_named (shown_fields fields.now.fields.now) (shown_member member.now).written.name)) }
 {
     match fields.tree(member.written.name.as_str()) {
         None => Ok(Answer::of(member.may_be_absent())),
         Some(tree) => {
             let place = member.place(alloc)?;
-            let answer = fits(alloc, names, steps, &place, tree)?;
+            let answer = fits_over(alloc, names, span, steps, &place, tree)?;
             Ok(answer)
         }
     }
@@ -225,12 +237,13 @@ fn member_fits<'a>(
 fn list_fits<'a>(
     alloc: Global,
     names: &Names<'a>,
+    span: Span,
     steps: usize,
     scope: &Scope<'a>,
     ty: &'a ASN1Type,
     tree: &Tree,
 ) -> Mem<Answer>
-    ensures { IfOk result (λ answer. (m : ℕ) → known answer ≡ list_judged (type_fits (meaning names.now.definitions.now (steps + m)) (shown scope.now) ty.now) (shown_tree tree.now)) }
+    ensures { IfOk result (λ answer. (m : ℕ) → known answer ≡ list_judged (type_fits (meaning names.now.definitions.now (steps + further span m)) (shown scope.now) ty.now) (shown_tree tree.now)) }
 {
     match elements_of(tree) {
         None => Ok(Answer::No),
@@ -240,7 +253,7 @@ fn list_fits<'a>(
                 scope,
                 ty: TypeForm::Written(ty),
             };
-            let answer = elements_fit(alloc, names, steps, &place, elements)?;
+            let answer = elements_fit(alloc, names, span, steps, &place, elements)?;
             Ok(answer)
         }
     }
@@ -252,15 +265,16 @@ fn list_fits<'a>(
 fn elements_fit<'a>(
     alloc: Global,
     names: &Names<'a>,
+    span: Span,
     steps: usize,
     place: &Place<'a>,
     elements: &[Tree],
 ) -> Mem<Answer>
-    ensures { IfOk result (λ answer. (m : ℕ) → known answer ≡ trees_judged ((meaning names.now.definitions.now (steps + m)).fits (shown_place place.now)) (shown_trees elements.now)) }
+    ensures { IfOk result (λ answer. (m : ℕ) → known answer ≡ trees_judged ((meaning names.now.definitions.now (steps + further span m)).fits (shown_place place.now)) (shown_trees elements.now)) }
 {
     let mut answer = Answer::Yes;
     for element in elements {
-        let one = fits(alloc, names, steps, place, element)?;
+        let one = fits_over(alloc, names, span, steps, place, element)?;
         answer = answer.and(one);
     }
     Ok(answer)
@@ -272,12 +286,13 @@ fn elements_fit<'a>(
 fn choice_fits<'a>(
     alloc: Global,
     names: &Names<'a>,
+    span: Span,
     steps: usize,
     scope: &Scope<'a>,
     options: &'a [ChoiceOption],
     tree: &Tree,
 ) -> Mem<Answer>
-    ensures { IfOk result (λ answer. (m : ℕ) → known answer ≡ choice_judged (option_fits (meaning names.now.definitions.now (steps + m)) (shown scope.now)) options.now (shown_tree tree.now)) }
+    ensures { IfOk result (λ answer. (m : ℕ) → known answer ≡ choice_judged (option_fits (meaning names.now.definitions.now (steps + further span m)) (shown scope.now)) options.now (shown_tree tree.now)) }
 {
     match alternative_of(tree) {
         None => Ok(Answer::No),
@@ -289,7 +304,7 @@ fn choice_fits<'a>(
                     scope,
                     ty: TypeForm::Written(&option.ty),
                 };
-                let answer = fits(alloc, names, steps, &place, alternative.tree)?;
+                let answer = fits_over(alloc, names, span, steps, &place, alternative.tree)?;
                 Ok(answer)
             }
         },

@@ -1,5 +1,6 @@
 use Rattle.std.proofs.Common.{◌≡◌, ℕ, ◌+◌, ◌*◌, drop}
 use Rattle.asn_heads.specs.Places.{shown_place}
+use Rattle.asn_heads.specs.Spans.{further}
 use Rattle.asn_shapes.specs.Answers.{known}
 use Rattle.asn_shapes.specs.inner.Fitting.{member_fits}
 use Rattle.asn_shapes.specs.Trees.{shown_fields, shown_trees}
@@ -9,8 +10,8 @@ use Rattle.asn_meaning.specs.Judge.{meaning}
 use Rattle.asn_meaning.specs.Shapes.{trees_judged}
 use Rattle.asn_shapes.proofs.fitting.+fitting.Given as goal
 
-abbrev pub decreases-fits : goal.decreases-fits
-decreases-fits l = 8 * l.steps
+abbrev pub decreases-fits_over : goal.decreases-fits_over
+decreases-fits_over l = 8 * l.steps
 
 abbrev pub decreases-member_fits : goal.decreases-member_fits
 decreases-member_fits l = 8 * l.steps + 1
@@ -44,10 +45,10 @@ decreases-fits_at l = 8 * l.steps + 7
 
 abbrev pub invariant-members_fit-loop-member : goal.invariant-members_fit-loop-member
 invariant-members_fit-loop-member l =
-    (m : ℕ) → both (known l.answer) (from (member_fits (meaning l.names.definitions.now (l.steps + m))) (shown_fields l.fields.fields.now) (drop l.member-index l.members))
-    ≡ from (member_fits (meaning l.names.definitions.now (l.steps + m))) (shown_fields l.fields.fields.now) l.members
+    (m : ℕ) → both (known l.answer) (from (member_fits (meaning l.names.definitions.now (l.steps + further l.span m))) (shown_fields l.fields.fields.now) (drop l.member-index l.members))
+    ≡ from (member_fits (meaning l.names.definitions.now (l.steps + further l.span m))) (shown_fields l.fields.fields.now) l.members
 
 abbrev pub invariant-elements_fit-loop-element : goal.invariant-elements_fit-loop-element
 invariant-elements_fit-loop-element l =
-    (m : ℕ) → both (known l.answer) (trees_judged ((meaning l.names.definitions.now (l.steps + m)).fits (shown_place l.place)) (shown_trees (drop l.element-index l.elements)))
-    ≡ trees_judged ((meaning l.names.definitions.now (l.steps + m)).fits (shown_place l.place)) (shown_trees l.elements)
+    (m : ℕ) → both (known l.answer) (trees_judged ((meaning l.names.definitions.now (l.steps + further l.span m)).fits (shown_place l.place)) (shown_trees (drop l.element-index l.elements)))
+    ≡ trees_judged ((meaning l.names.definitions.now (l.steps + further l.span m)).fits (shown_place l.place)) (shown_trees l.elements)
