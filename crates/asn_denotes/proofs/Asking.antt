@@ -1,5 +1,5 @@
 -- Whether values are ALL, by the outcome of each look-up and within a number of steps.
-use Rattle.std.proofs.Common.{◌≡◌, ℕ, ◌+◌, ◌-◌, ◌<◌, suc, List, Bool, true, false, if◌then◌else◌, Option, Some, None, refl, sym, ap, ◌∙◌}
+use Rattle.std.proofs.Common.{◌≡◌, ℕ, ◌+◌, ◌-◌, ◌<◌, suc, List, Bool, true, false, if◌then◌else◌, Option, Some, None, refl, sym, ap, ◌∙◌, arith}
 use Rattle.std.specs.Prelude.{is_some}
 use Rattle.asn_tree.specs.declared.definitions.ToplevelValueDefinition.{ToplevelValueDefinition}
 use Rattle.asn_tree.specs.declared.types.ASN1Type.{ASN1Type}
@@ -16,7 +16,7 @@ use Rattle.asn_meaning.specs.Answers.{Answer, No, Unknown, once}
 use Rattle.asn_meaning.specs.Definitions.{Definitions, value_named}
 use Rattle.asn_meaning.specs.Denotes.{Read, argument_of, defined_read, own_name, path_value}
 use Rattle.asn_meaning.specs.Everything.{defined_is_all, field_place, is_all_at, name_is_all, read_is_all, reference_is_all}
-use Rattle.asn_meaning.specs.Judge.{meaning, step}
+use Rattle.asn_meaning.specs.Judge.{meaning, nothing_known, step}
 use Rattle.asn_meaning.specs.Meaning.{Meaning}
 use Rattle.asn_meaning.specs.Names.{FieldType, Open, Fixed}
 use Rattle.asn_meaning.specs.Scopes.{Scope, Empty, Bound, bound_to, Place}
@@ -144,3 +144,10 @@ pub all_further : (defs : Definitions) (n m : ℕ) (r : Read) (asks : LentAsks) 
     read_is_all (meaning defs (n + m)) r ≡ read_is_all (meaning defs (n - 1 + m)) (shown_read after)
 all_further defs n m r asks after lt e is =
     all_next defs n m r asks lt e ∙ ap (λ a. asked (meaning defs (n - 1 + m)) (shown_asks a)) is
+
+-- Within no steps nothing is known of ALL.
+pub all_not : (defs : Definitions) (n m : ℕ) (r : Read) → n ≡ 0 → m ≡ 0 → read_is_all (meaning defs (n + m)) r ≡ Unknown
+unfolding meaning nothing_known
+all_not defs n m r e f =
+    let none : n + m ≡ 0 = omega arith in
+    ap (λ k. read_is_all (meaning defs k) r) none

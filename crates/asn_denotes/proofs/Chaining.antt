@@ -1,5 +1,5 @@
 -- Names of values that are followed one after the other, and the shapes that are wanted at their end.
-use Rattle.std.proofs.Common.{◌≡◌, ℕ, ◌+◌, ◌-◌, ◌<◌, ◌≤◌, List, [], ◌∷◌, ◌++◌, take, length, get_or, refl, sym, ap, ◌∙◌}
+use Rattle.std.proofs.Common.{◌≡◌, ℕ, ◌+◌, ◌-◌, ◌<◌, ◌≤◌, List, [], ◌∷◌, ◌++◌, take, length, get_or, refl, sym, ap, ◌∙◌, arith}
 use Rattle.std.proofs.lemmas.List.{take_more, take_all}
 use Rattle.asn_tree.specs.declared.values.ASN1Value.{ASN1Value}
 use Rattle.asn_heads.specs.declared.places.Place.{Place as LentPlace}
@@ -14,19 +14,19 @@ use Rattle.asn_shapes.specs.declared.trees.Tree.{Tree}
 use Rattle.asn_denotes.specs.Denotation.{shown_denotation}
 use Rattle.asn_denotes.specs.inner.Following.{next_denoted, shaped_by}
 use Rattle.asn_denotes.specs.inner.Reading.{shown_read}
-use Rattle.asn_meaning.specs.Answers.{Denotation}
+use Rattle.asn_meaning.specs.Answers.{Denotation, Unsure}
 use Rattle.asn_meaning.specs.Definitions.{Definitions}
 use Rattle.asn_meaning.specs.Denotes.{Read, denotes_at, read_denoted, shaped}
-use Rattle.asn_meaning.specs.Judge.{meaning}
+use Rattle.asn_meaning.specs.Judge.{meaning, nothing_known}
 use Rattle.asn_meaning.specs.Scopes.{Scope, Place}
 use Rattle.asn_meaning.specs.ValueTrees.{ValueTree}
 
 -- ---- shapes that are wanted
 
-abbrev shaped_as : Definitions → ℕ → Wanted → Denotation ValueTree → Denotation ValueTree
+abbrev pub shaped_as : Definitions → ℕ → Wanted → Denotation ValueTree → Denotation ValueTree
 shaped_as defs m w d = shaped (meaning defs (w.steps + m)) (shown_place w.head) d
 
-behind : (defs : Definitions) (m : ℕ) (ws : List Wanted) (w : Wanted) (d : Denotation ValueTree) → shaped_by defs m (ws ++ w ∷ []) d ≡ shaped_by defs m ws (shaped_as defs m w d)
+pub behind : (defs : Definitions) (m : ℕ) (ws : List Wanted) (w : Wanted) (d : Denotation ValueTree) → shaped_by defs m (ws ++ w ∷ []) d ≡ shaped_by defs m ws (shaped_as defs m w d)
 behind defs m [] w d = refl
 behind defs m (first ∷ ws) w d = ap (shaped_as defs m first) (behind defs m ws w d)
 
@@ -68,3 +68,19 @@ follow_further defs n m ws more r next head after lt e is all =
     ap (λ xs. shaped_by defs m xs (read_denoted (meaning defs (n - 1 + m)) (shown_read after))) all
     ∙ behind defs m ws (record { steps = n - 1; head = head }) (read_denoted (meaning defs (n - 1 + m)) (shown_read after))
     ∙ sym (ap (shaped_by defs m ws) (denoted_next defs n m r next lt e ∙ ap (next_denoted (meaning defs (n - 1 + m))) is))
+
+-- ---- within no steps
+
+unsure_stays : (defs : Definitions) (m : ℕ) (ws : List Wanted) → shaped_by defs m ws Unsure ≡ Unsure
+unsure_stays defs m [] = refl
+unsure_stays defs m (w ∷ ws) = ap (shaped_as defs m w) (unsure_stays defs m ws)
+
+not_denoted : (defs : Definitions) (n m : ℕ) (r : Read) → n ≡ 0 → m ≡ 0 → read_denoted (meaning defs (n + m)) r ≡ Unsure
+unfolding meaning nothing_known
+not_denoted defs n m r e f =
+    let none : n + m ≡ 0 = omega arith in
+    ap (λ k. read_denoted (meaning defs k) r) none
+
+-- Within no steps nothing is known of what is denoted.
+pub follow_not : (defs : Definitions) (n m : ℕ) (ws : List Wanted) (r : Read) → n ≡ 0 → m ≡ 0 → shaped_by defs m ws (read_denoted (meaning defs (n + m)) r) ≡ Unsure
+follow_not defs n m ws r e f = ap (shaped_by defs m ws) (not_denoted defs n m r e f) ∙ unsure_stays defs m ws

@@ -4,6 +4,7 @@ pub mod Chaining
 pub mod Denoting
 pub mod Fielding
 pub mod Joining
+pub mod Leaving
 pub mod Listing
 pub mod Naming
 pub mod Owning

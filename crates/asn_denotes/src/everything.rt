@@ -4,6 +4,7 @@ ghost use Rattle.asn_heads.specs.Classes.{shown_field_type};
 ghost use Rattle.asn_heads.specs.Kinds.{shown_type};
 ghost use Rattle.asn_heads.specs.Places.{shown_place};
 ghost use Rattle.asn_heads.specs.Scopes.{shown, shown_bound};
+ghost use Rattle.asn_heads.specs.Spans.{further};
 ghost use Rattle.asn_heads.specs.Values.{shown_value};
 ghost use Rattle.asn_denotes.specs.inner.Asking.{asked, defined_asks, dummy_asks, head_asks, name_asks, path_asks, reference_asks, shown_asks};
 ghost use Rattle.asn_denotes.specs.inner.Reading.{shown_read};
@@ -18,7 +19,7 @@ ghost use Rattle.std.specs.Prelude.{◌≡◌, IfOk, ℕ, ◌+◌};
 use crate::own::own_name;
 use crate::reading::{Read, argument_of, defined_read, path_value, read_at, read_outside};
 use asn_heads::{
-    Bound, FieldType, Place, Scope, TypeForm, ValueForm, Written, head, value_written,
+    Bound, FieldType, Place, Scope, Span, TypeForm, ValueForm, Written, head_over, value_written,
 };
 use asn_index::Names;
 use asn_memory::{Mem, OutOfMemory, Text};
@@ -79,13 +80,14 @@ fn defined_asks<'a>(names: &Names<'a>, head: &Place<'a>, name: &str) -> Asks<'a>
 fn head_asks<'a>(
     alloc: Global,
     names: &Names<'a>,
+    span: Span,
     steps: usize,
     place: &Place<'a>,
     name: &str,
 ) -> Mem<Asks<'a>>
-    ensures { IfOk result (λ asks. (m : ℕ) → shown_asks asks ≡ head_asks names.now.definitions.now (meaning names.now.definitions.now (steps + m)) (shown_place place.now) name.now) }
+    ensures { IfOk result (λ asks. (m : ℕ) → shown_asks asks ≡ head_asks names.now.definitions.now (meaning names.now.definitions.now (steps + further span m)) (shown_place place.now) name.now) }
 {
-    match head(alloc, names, steps, place)? {
+    match head_over(alloc, names, span, steps, place)? {
         None => Ok(Asks::Known(Answer::Unknown)),
         Some(head) => Ok(defined_asks(names, &head, name)),
     }
@@ -98,12 +100,13 @@ fn head_asks<'a>(
 fn name_asks<'a>(
     alloc: Global,
     names: &Names<'a>,
+    span: Span,
     steps: usize,
     scope: &Scope<'a>,
     place: &Place<'a>,
     name: &str,
 ) -> Mem<Asks<'a>>
-    ensures { IfOk result (λ asks. (m : ℕ) → shown_asks asks ≡ name_asks names.now.definitions.now (meaning names.now.definitions.now (steps + m)) (shown scope.now) (shown_place place.now) name.now (bound_to (shown scope.now) name.now)) }
+    ensures { IfOk result (λ asks. (m : ℕ) → shown_asks asks ≡ name_asks names.now.definitions.now (meaning names.now.definitions.now (steps + further span m)) (shown scope.now) (shown_place place.now) name.now (bound_to (shown scope.now) name.now)) }
 {
     match scope.bound_to(name) {
         Some(bound) => {
@@ -111,7 +114,7 @@ fn name_asks<'a>(
             Ok(asks)
         }
         None => {
-            let asks = head_asks(alloc, names, steps, place, name)?;
+            let asks = head_asks(alloc, names, span, steps, place, name)?;
             Ok(asks)
         }
     }
@@ -145,17 +148,18 @@ fn path_asks<'a>(
 fn reference_asks<'a>(
     alloc: Global,
     names: &Names<'a>,
+    span: Span,
     steps: usize,
     scope: &Scope<'a>,
     place: &Place<'a>,
     parent: Option<&'a Text>,
     name: &'a Text,
 ) -> Mem<Asks<'a>>
-    ensures { IfOk result (λ asks. (m : ℕ) → shown_asks asks ≡ reference_asks names.now.definitions.now (meaning names.now.definitions.now (steps + m)) (shown scope.now) (shown_place place.now) (option_copied parent.entry) name.now) }
+    ensures { IfOk result (λ asks. (m : ℕ) → shown_asks asks ≡ reference_asks names.now.definitions.now (meaning names.now.definitions.now (steps + further span m)) (shown scope.now) (shown_place place.now) (option_copied parent.entry) name.now) }
 {
     match parent {
         None => {
-            let asks = name_asks(alloc, names, steps, scope, place, name.as_str())?;
+            let asks = name_asks(alloc, names, span, steps, scope, place, name.as_str())?;
             Ok(asks)
         }
         Some(object) => {
@@ -170,15 +174,21 @@ fn reference_asks<'a>(
 ///
 /// Err: want of memory.
 #[tactic(auto, using(crate::proofs::Asking::of_reference))]
-fn value_asks<'a>(alloc: Global, names: &Names<'a>, steps: usize, read: &Read<'a>) -> Mem<Asks<'a>>
-    ensures { IfOk result (λ asks. (m : ℕ) → asked (meaning names.now.definitions.now (steps + m)) (shown_asks asks) ≡ is_all_at names.now.definitions.now (meaning names.now.definitions.now (steps + m)) (shown_read read.now).scope (shown_read read.now).place (as_written (shown_read read.now).value)) }
+fn value_asks<'a>(
+    alloc: Global,
+    names: &Names<'a>,
+    span: Span,
+    steps: usize,
+    read: &Read<'a>,
+) -> Mem<Asks<'a>>
+    ensures { IfOk result (λ asks. (m : ℕ) → asked (meaning names.now.definitions.now (steps + further span m)) (shown_asks asks) ≡ is_all_at names.now.definitions.now (meaning names.now.definitions.now (steps + further span m)) (shown_read read.now).scope (shown_read read.now).place (as_written (shown_read read.now).value)) }
 {
     let scope = &read.scope;
     let place = &read.place;
     match value_written(read.value) {
         Written::All => Ok(Asks::Known(Answer::Yes)),
         Written::Name { parent, identifier } => {
-            let asks = reference_asks(alloc, names, steps, scope, place, parent, identifier)?;
+            let asks = reference_asks(alloc, names, span, steps, scope, place, parent, identifier)?;
             Ok(asks)
         }
         Written::Nested(value) => {
@@ -205,24 +215,29 @@ fn value_asks<'a>(alloc: Global, names: &Names<'a>, steps: usize, read: &Read<'a
 /// Whether a value, read in its own scope, is ALL under a type within a number of steps, and within more, or a dummy, a name
 /// or a path that stands for it (X.680 51.2). Each turn of the loop follows one of these.
 ///
-/// Unknown: a name leads nowhere, however many steps there are. Err: want of memory, also where the steps are used up.
-#[tactic(auto, using(crate::proofs::Asking::all_begin))]
-pub fn is_all<'a>(
+/// Unknown: a name leads nowhere, however many steps there are; or, over these steps alone, they are used up. Err: want of memory, over
+/// further steps also where these are used up.
+#[tactic(auto, using(crate::proofs::Asking::all_begin, crate::proofs::Asking::all_not))]
+pub fn is_all_over<'a>(
     alloc: Global,
     names: &Names<'a>,
+    span: Span,
     steps: usize,
     scope: &Scope<'a>,
     value: ValueForm<'a>,
     place: &Place<'a>,
 ) -> Mem<Answer>
-    ensures { IfOk result (λ answer. (m : ℕ) → known answer ≡ (meaning names.now.definitions.now (steps + m)).is_all (shown scope.now) (shown_value value.entry) (shown_place place.now)) }
+    ensures { IfOk result (λ answer. (m : ℕ) → known answer ≡ (meaning names.now.definitions.now (steps + further span m)).is_all (shown scope.now) (shown_value value.entry) (shown_place place.now)) }
 {
     let mut read = read_at(alloc, scope, value, place)?;
     for left in (0..steps).rev() {
-        match value_asks(alloc, names, left, &read)? {
+        match value_asks(alloc, names, span, left, &read)? {
             Asks::Known(answer) => return Ok(answer),
             Asks::Read(next) => read = next,
         }
     }
-    Err(OutOfMemory)
+    match span {
+        Span::Further => Err(OutOfMemory),
+        Span::These => Ok(Answer::Unknown),
+    }
 }

@@ -4,6 +4,7 @@ ghost use Rattle.asn_denotes.specs.Denotation.{shown_denotation};
 ghost use Rattle.asn_denotes.specs.inner.Following.{next_denoted, shaped_by};
 ghost use Rattle.asn_heads.specs.Places.{shown_place};
 ghost use Rattle.asn_heads.specs.Scopes.{shown};
+ghost use Rattle.asn_heads.specs.Spans.{further};
 ghost use Rattle.asn_meaning.specs.Denotes.{reference_denoted, shaped};
 ghost use Rattle.asn_meaning.specs.Judge.{meaning};
 ghost use Rattle.std.specs.Option.{option_copied};
@@ -13,10 +14,10 @@ use crate::denotation::{Denotation, provided};
 use crate::making::opaque_tree;
 use crate::reading::Read;
 use crate::stands::{Stands, reference_stands};
-use asn_heads::{Place, Scope};
+use asn_heads::{Place, Scope, Span};
 use asn_index::Names;
 use asn_memory::{List, Mem, Text};
-use asn_shapes::{Tree, fits};
+use asn_shapes::{Tree, fits_over};
 use std::alloc::Global;
 
 /// A shape that is wanted of what is denoted: that of a head, as it is known within a number of steps.
@@ -56,15 +57,16 @@ pub fn with_wanted<'a>(
 pub fn shaped<'a>(
     alloc: Global,
     names: &Names<'a>,
+    span: Span,
     steps: usize,
     head: &Place<'a>,
     denotation: Denotation<Tree>,
 ) -> Mem<Denotation<Tree>>
-    ensures { IfOk result (λ d. (m : ℕ) → shown_denotation d ≡ shaped (meaning names.now.definitions.now (steps + m)) (shown_place head.now) (shown_denotation denotation)) }
+    ensures { IfOk result (λ d. (m : ℕ) → shown_denotation d ≡ shaped (meaning names.now.definitions.now (steps + further span m)) (shown_place head.now) (shown_denotation denotation)) }
 {
     match denotation {
         Denotation::Denoted(tree) => {
-            let answer = fits(alloc, names, steps, head, &tree)?;
+            let answer = fits_over(alloc, names, span, steps, head, &tree)?;
             Ok(provided(answer, tree))
         }
         Denotation::Nothing => Ok(Denotation::Nothing),
@@ -79,15 +81,16 @@ pub fn shaped<'a>(
 pub fn shaped_by<'a>(
     alloc: Global,
     names: &Names<'a>,
+    span: Span,
     wanted: &[Wanted<'a>],
     denotation: Denotation<Tree>,
 ) -> Mem<Denotation<Tree>>
-    ensures { IfOk result (λ d. (m : ℕ) → shown_denotation d ≡ shaped_by names.now.definitions.now m wanted.now (shown_denotation denotation)) }
+    ensures { IfOk result (λ d. (m : ℕ) → shown_denotation d ≡ shaped_by names.now.definitions.now (further span m) wanted.now (shown_denotation denotation)) }
 {
     let mut denoted = denotation;
     for i in (0..wanted.len()).rev() {
         let shape = &wanted[i];
-        denoted = shaped(alloc, names, shape.steps, &shape.head, denoted)?;
+        denoted = shaped(alloc, names, span, shape.steps, &shape.head, denoted)?;
     }
     Ok(denoted)
 }
@@ -99,13 +102,14 @@ pub fn shaped_by<'a>(
 pub fn named_next<'a>(
     alloc: Global,
     names: &Names<'a>,
+    span: Span,
     steps: usize,
     scope: &Scope<'a>,
     parent: Option<&'a Text>,
     name: &'a Text,
     head: &Place<'a>,
 ) -> Mem<Next<'a>>
-    ensures { IfOk result (λ next. (m : ℕ) → next_denoted (meaning names.now.definitions.now (steps + m)) next ≡ reference_denoted names.now.definitions.now (meaning names.now.definitions.now (steps + m)) (shown scope.now) (shown_place head.now) (option_copied parent.entry) name.now) }
+    ensures { IfOk result (λ next. (m : ℕ) → next_denoted (meaning names.now.definitions.now (steps + further span m)) next ≡ reference_denoted names.now.definitions.now (meaning names.now.definitions.now (steps + further span m)) (shown scope.now) (shown_place head.now) (option_copied parent.entry) name.now) }
 {
     match reference_stands(alloc, names, scope, head, parent, name)? {
         Stands::Tree(tree) => Ok(Next::Known(Denotation::Denoted(tree))),
@@ -115,7 +119,7 @@ pub fn named_next<'a>(
         }
         Stands::Open => {
             let opaque = Denotation::Denoted(opaque_tree());
-            let denoted = shaped(alloc, names, steps, head, opaque)?;
+            let denoted = shaped(alloc, names, span, steps, head, opaque)?;
             Ok(Next::Known(denoted))
         }
         Stands::Nothing => Ok(Next::Known(Denotation::Unsure)),

@@ -30,7 +30,8 @@ use crate::reading::{Read, read_at};
 use crate::rows::row;
 use crate::structs::may_stand;
 use asn_heads::{
-    Kind, Place, Scope, TypeForm, ValueForm, Written, head, kind_of, option_named, value_written,
+    Kind, Place, Scope, Span, TypeForm, ValueForm, Written, head, kind_of, option_named,
+    value_written,
 };
 use asn_index::Names;
 use asn_memory::{List, Mem, OutOfMemory, Text};
@@ -91,7 +92,7 @@ pub fn denotes<'a>(
     for left in (0..steps).rev() {
         match next_of(alloc, names, left, &read)? {
             Next::Known(denoted) => {
-                let answer = shaped_by(alloc, names, wanted.as_slice(), denoted)?;
+                let answer = shaped_by(alloc, names, Span::Further, wanted.as_slice(), denoted)?;
                 return Ok(answer);
             }
             Next::Further(head, next) => {
@@ -154,7 +155,16 @@ fn value_next<'a>(
 {
     match written {
         Written::Name { parent, identifier } => {
-            let next = named_next(alloc, names, steps, scope, parent, identifier, head)?;
+            let next = named_next(
+                alloc,
+                names,
+                Span::Further,
+                steps,
+                scope,
+                parent,
+                identifier,
+                head,
+            )?;
             Ok(next)
         }
         Written::Item(name) => {
