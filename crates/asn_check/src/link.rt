@@ -116,9 +116,9 @@ fn into_definitions(linked: LinkedDefinitions) -> List<ToplevelDefinition>
 }
 
 /// The linked answer of a reading. Each definition is given with its numbers and its module's tagging environment, and one for each name
-/// stands. One of a type that linking leaves as it is, and one without parameters that leads to no circle and has an instance within 4,096
-/// levels, gets that instance and its tag; every other is as it was given. Linking judges each definition that leads to no circle of
-/// names, where of one that it leaves as it is this is asked of the names alone that it follows (`asn_references::followed`), and
+/// stands. One of a type that linking leaves as it is, and one without parameters that has an instance within 4,096 steps and levels, or
+/// 256 where it leads to a circle of names, gets that instance and its tag; every other is as it was given. Linking judges each definition
+/// that leads to no circle of names, where of one that it leaves as it is this is asked of the names alone that it follows (`asn_references::followed`), and
 /// warns of a wrong argument at one of its places, or else of a missing name, or else that it is not linked; for a time, of each other
 /// one; and of names that several definitions have. Where all definitions have basic forms, these are all the faults that stand.
 ///

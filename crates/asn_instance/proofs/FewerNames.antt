@@ -1,6 +1,8 @@
 -- A choice by which fewer names may stay finds the same where all names that stay may.
 use Rattle.std.proofs.Common.{Bool, List, None, Option, Some, [], ap, false, refl, sym, true, ℕ, ◌&&◌, ◌++◌, ◌∙◌, ◌∷◌, ◌≡◌}
 use Rattle.std.specs.List.{list_all}
+use Rattle.asn_tree.specs.Layers.{ContentLayer}
+use Rattle.asn_tree.specs.declared.constraints.ContentConstraint.{ContentConstraint, ContentConstraint-F, out-ContentConstraint, roll-ContentConstraint}
 use Rattle.asn_headers.specs.declared.headers.AsnTag.{AsnTag}
 use Rattle.asn_tree.specs.declared.constraints.Constraint.{Constraint, Constraint-F, out-Constraint, out-roll-Constraint, roll-Constraint}
 use Rattle.asn_tree.specs.declared.constraints.ElementOrSetOperation.{ElementOrSetOperation, ElementOrSetOperation-F}
@@ -14,11 +16,11 @@ use Rattle.asn_meaning.specs.Layers.{ConstraintLayer, ElementLayer, InnerLayer, 
 use Rattle.asn_meaning.specs.Meaning.{Meaning}
 use Rattle.asn_meaning.specs.Members.{element_place}
 use Rattle.asn_meaning.specs.Ranges.{integer_named}
-use Rattle.asn_meaning.specs.Scopes.{Place, Scope}
+use Rattle.asn_meaning.specs.Scopes.{Place, Scope, Empty, Binds, LeavesOpen}
 use Rattle.asn_instance.specs.Fewer.{AreFewer, with_names}
-use Rattle.asn_instance.specs.Instance.{Instances, component_instance, constraint_instance, element_instance, inner_instance, listed_instance, of_constraints, operation_instance, part_named, set_instance, stays_at}
+use Rattle.asn_instance.specs.Instance.{Instances, component_instance, constraint_instance, element_instance, inner_instance, listed_instance, of_constraints, operation_instance, part_named, set_instance, stays_at, content_bound, content_instance}
 use Rattle.asn_instance.specs.Staying.{Names, constraint_stays, constraints_stay, staying}
-use Rattle.asn_instance.specs.Subjects.{Choices, OnCharacters, OnValues, Subject, traversed}
+use Rattle.asn_instance.specs.Subjects.{Choices, OnCharacters, OnValues, Subject, traversed, rules_read}
 use Rattle.asn_instance.proofs.Holding.{Holds, once_holds, result_holds, result_is, then_holds}
 use Rattle.asn_instance.proofs.StayingNames.{AllOk, ElementLayerOk, ElementOk, ListedOk, SetLayerOk, SetOk, TypeOk, all_first, all_second, firsts, seconds}
 
@@ -45,6 +47,8 @@ pub record FoundFewer (fewer : Names) (I J : Instances) : Type 0 where
   pub of_set : (scope : Scope) (s : Subject) (x y : ElementOrSetOperation) → I.of_set scope s x ≡ Some y → SetOk fewer y → J.of_set scope s x ≡ Some y
   pub of_element : (scope : Scope) (s : Subject) (x y : SubtypeElement) → I.of_element scope s x ≡ Some y → ElementOk fewer y → J.of_element scope s x ≡ Some y
   pub of_tag : (scope : Scope) (ty uy : ASN1Type) (tag : Option AsnTag) → I.of_type false scope ty ≡ Some uy → TypeOk fewer uy → I.of_tag scope ty ≡ Some tag → J.of_tag scope ty ≡ Some tag
+  -- contents are the same by both
+  pub of_contained : (scope : Scope) (ty : ASN1Type) → J.of_contained scope ty ≡ I.of_contained scope ty
 
 module _ (C : Choices) (fewer : Names) (defs : Definitions) (less : AreFewer fewer C) (M : Meaning) (I J : Instances) (f : FoundFewer fewer I J) where
   abbrev D : Choices
@@ -52,6 +56,19 @@ module _ (C : Choices) (fewer : Names) (defs : Definitions) (less : AreFewer few
 
   abbrev AllAgain : Scope → Place → List Constraint → List Constraint → Type 0
   AllAgain scope p cs ds = AllOk fewer ds → of_constraints D defs M J scope p cs ≡ Some ds
+
+  -- ---- contents
+
+  bound_again : (scope : Scope) (l : ContentLayer) → content_bound D defs M J scope l ≡ content_bound C defs M I scope l
+  bound_again scope (ContentConstraint-F.Containing ty) = ap (λ o. once None o (λ uy. Some (ContentConstraint-F.Containing uy))) (f.of_contained scope ty)
+  bound_again scope (ContentConstraint-F.EncodedBy rules) = refl
+  bound_again scope (ContentConstraint-F.ContainingEncodedBy ty rules) =
+      ap (λ o. once None o (λ uy. once None (C.default M scope rules rules_read) (λ r. Some (ContentConstraint-F.ContainingEncodedBy uy r)))) (f.of_contained scope ty)
+
+  content_again : (scope : Scope) (x : ContentConstraint) → content_instance D defs M J scope x ≡ content_instance C defs M I scope x
+  content_again Empty x = refl
+  content_again (Binds dummy governor argument scope others) x = ap (λ o. once None o (λ l. Some (roll-ContentConstraint l))) (bound_again (Binds dummy governor argument scope others) (out-ContentConstraint x))
+  content_again (LeavesOpen dummy governor others) x = ap (λ o. once None o (λ l. Some (roll-ContentConstraint l))) (bound_again (LeavesOpen dummy governor others) (out-ContentConstraint x))
 
   -- ---- constraints
 
@@ -63,7 +80,7 @@ module _ (C : Choices) (fewer : Names) (defs : Definitions) (less : AreFewer few
       set_ok set ok m =
           sym (ap (λ l. constraint_stays fewer (staying fewer m) l) (out-roll-Constraint (Constraint-F.SubtypeConstraint (record x { set = set })))) ∙ firsts (λ m. constraint_stays fewer (staying fewer m) (out-Constraint (roll-Constraint (Constraint-F.SubtypeConstraint (record x { set = set }))))) (λ m. true) ok m
   constraint_again scope s (Constraint-F.TableConstraint x) = once_holds (C.table M scope x) _ _ (λ y e ok. ap (λ z. once None z (λ y. Some (roll-Constraint (Constraint-F.TableConstraint y) ∷ []))) e)
-  constraint_again scope s (Constraint-F.ContentConstraint x) = once_holds (C.content M scope x) _ _ (λ y e ok. ap (λ z. once None z (λ y. Some (roll-Constraint (Constraint-F.ContentConstraint y) ∷ []))) e)
+  constraint_again scope s (Constraint-F.ContentConstraint x) = once_holds (content_instance C defs M I scope x) _ _ (λ y e ok. ap (λ z. once None z (λ y. Some (roll-Constraint (Constraint-F.ContentConstraint y) ∷ []))) (content_again scope x ∙ e))
   constraint_again scope s (Constraint-F.Parameter ps) = λ ok. refl
 
   one_again : (scope : Scope) (p : Place) (c : Constraint) → Holds (once None (M.head p) (λ head. constraint_instance C defs M I scope (OnValues head) (out-Constraint c)))

@@ -1,5 +1,5 @@
 -- Types of instances are found the same by fewer names.
-use Rattle.std.proofs.Common.{Bool, List, None, Option, Some, [], ap, false, inl, inr, refl, subst, suc, sym, true, zero, ℕ, ◌&&◌, ◌++◌, ◌+◌, ◌∙◌, ◌∷◌, ◌≡◌, ◌⊎◌}
+use Rattle.std.proofs.Common.{Bool, List, None, Option, Some, [], ap, false, inl, inr, refl, subst, suc, sym, true, zero, ℕ, ◌&&◌, ◌++◌, ◌∙◌, ◌∷◌, ◌≡◌, ◌⊎◌}
 use Rattle.std.specs.List.{list_all}
 use Rattle.std.specs.Prelude.{if◌then◌else◌}
 use Rattle.asn_headers.specs.declared.headers.AsnTag.{AsnTag}
@@ -26,9 +26,9 @@ use Rattle.asn_meaning.specs.Scopes.{Empty, Place, Scope, Target, bare}
 use Rattle.asn_meaning.specs.ValueTrees.{same_truth}
 use Rattle.asn_calls.specs.Types.{with_constraints_at}
 use Rattle.asn_instance.specs.Fewer.{AreFewer, with_names}
-use Rattle.asn_instance.specs.Instance.{Instances, constrained, element_instance, extended, field_instance, first_tag, followed_by, has_no_place, instance, instance_at, list_instance, member_instance, no_instance, of_constraints, of_members, of_options, option_instance, own_tag, placed_tag, places_left, replaced, risen, set_instance, stays, struct_instance, tag_instance, type_instance}
+use Rattle.asn_instance.specs.Instance.{Instances, constrained, element_instance, extended, field_instance, first_tag, followed_by, has_no_place, instance, instance_at, list_instance, member_instance, no_instance, of_constraints, of_members, of_options, option_instance, own_tag, placed_tag, places_left, replaced, risen, set_instance, stays, struct_instance, tag_instance, type_instance, type_at}
 use Rattle.asn_instance.specs.Staying.{Names, NamesStay, constraints_stay, kind_stays, member_stays, option_stays, staying}
-use Rattle.asn_instance.specs.Subjects.{Choices, Subject, perhaps}
+use Rattle.asn_instance.specs.Subjects.{Choices, Subject, perhaps, keeping_all}
 use Rattle.asn_instance.proofs.Forms.{own}
 use Rattle.asn_instance.proofs.Holding.{Holds, once_holds, result_holds, result_is, some_same, then_holds, weaker}
 use Rattle.asn_instance.proofs.StayingNames.{AllOk, ElementLayerOk, ElementOk, LayerOk, MembersOk, OptionsOk, SetLayerOk, SetOk, TypeOk, all_first, all_second, element_layer, firsts, followed_names, layer_all, layer_kind, layer_type, own_none, placed_or, seconds, set_layer, type_layer}
@@ -280,48 +280,53 @@ module _ (C : Choices) (fewer : Names) (defs : Definitions) (less : AreFewer few
 
   -- ---- one level
 
-  type_next : (down : Bool) (scope : Scope) (ty uy : ASN1Type) → (instance_at C defs M I).of_type down scope ty ≡ Some uy → TypeOk fewer uy → (instance_at D defs M J).of_type down scope ty ≡ Some uy
+  type_next : (down : Bool) (scope : Scope) (ty uy : ASN1Type) → type_at C defs M I down scope ty ≡ Some uy → TypeOk fewer uy → type_at D defs M J down scope ty ≡ Some uy
   type_next down scope ty uy e ok =
       let r = rolled_type uy (type_instance C defs M I down scope ty (out-ASN1Type ty)) e in
       let found = result_holds (type_instance C defs M I down scope ty (out-ASN1Type ty)) (λ r. LayerOk fewer r → type_instance D defs M J down scope ty (out-ASN1Type ty) ≡ Some r) r.0 (type_again down scope ty (out-ASN1Type ty)) r.1 in
       ap (λ z. once None z (λ l. Some (roll-ASN1Type l))) (found (subst (λ z. LayerOk fewer z) r.3 (type_layer fewer uy ok))) ∙ r.2
 
-  tag_next : (scope : Scope) (ty uy : ASN1Type) (tag : Option AsnTag) → (instance_at C defs M I).of_type false scope ty ≡ Some uy → TypeOk fewer uy → (instance_at C defs M I).of_tag scope ty ≡ Some tag → (instance_at D defs M J).of_tag scope ty ≡ Some tag
+  tag_next : (scope : Scope) (ty uy : ASN1Type) (tag : Option AsnTag) → type_at C defs M I false scope ty ≡ Some uy → TypeOk fewer uy → tag_instance C defs M I scope (out-ASN1Type ty) ≡ Some tag → tag_instance D defs M J scope (out-ASN1Type ty) ≡ Some tag
   tag_next scope ty uy tag e ok g =
       let r = rolled_type uy (type_instance C defs M I false scope ty (out-ASN1Type ty)) e in
       tag_again scope ty (out-ASN1Type ty) r.0 tag r.1 (subst (λ z. LayerOk fewer z) r.3 (type_layer fewer uy ok)) g
 
-  set_next : (scope : Scope) (s : Subject) (x y : ElementOrSetOperation) → (instance_at C defs M I).of_set scope s x ≡ Some y → SetOk fewer y → (instance_at D defs M J).of_set scope s x ≡ Some y
-  set_next scope s x y e ok =
+  set_next : (contained : Scope → ASN1Type → Option ASN1Type) (scope : Scope) (s : Subject) (x y : ElementOrSetOperation) → (instance_at C defs M I contained).of_set scope s x ≡ Some y → SetOk fewer y → (instance_at D defs M J contained).of_set scope s x ≡ Some y
+  set_next contained scope s x y e ok =
       let r = rolled_set y (set_instance C defs M I scope s (out-ElementOrSetOperation x)) e in
       let found = result_holds (set_instance C defs M I scope s (out-ElementOrSetOperation x)) (λ r. SetLayerOk fewer r → set_instance D defs M J scope s (out-ElementOrSetOperation x) ≡ Some r) r.0 (set_again C fewer defs less M I J f scope s (out-ElementOrSetOperation x)) r.1 in
       ap (λ z. once None z (λ l. Some (roll-ElementOrSetOperation l))) (found (subst (λ z. SetLayerOk fewer z) r.3 (set_layer fewer y ok))) ∙ r.2
 
-  element_next : (scope : Scope) (s : Subject) (x y : SubtypeElement) → (instance_at C defs M I).of_element scope s x ≡ Some y → ElementOk fewer y → (instance_at D defs M J).of_element scope s x ≡ Some y
-  element_next scope s x y e ok =
+  element_next : (contained : Scope → ASN1Type → Option ASN1Type) (scope : Scope) (s : Subject) (x y : SubtypeElement) → (instance_at C defs M I contained).of_element scope s x ≡ Some y → ElementOk fewer y → (instance_at D defs M J contained).of_element scope s x ≡ Some y
+  element_next contained scope s x y e ok =
       let r = rolled_element y (element_instance C defs M I scope s (out-SubtypeElement x)) e in
       let found = result_holds (element_instance C defs M I scope s (out-SubtypeElement x)) (λ r. ElementLayerOk fewer r → element_instance D defs M J scope s (out-SubtypeElement x) ≡ Some r) r.0 (element_again C fewer defs less M I J f scope s (out-SubtypeElement x)) r.1 in
       ap (λ z. once None z (λ l. Some (roll-SubtypeElement l))) (found (subst (λ z. ElementLayerOk fewer z) r.3 (element_layer fewer y ok))) ∙ r.2
 
-  level_next : FoundFewer fewer (instance_at C defs M I) (instance_at D defs M J)
-  level_next = record { of_type = type_next; of_set = set_next; of_element = element_next; of_tag = tag_next }
+  level_next : (contained : Scope → ASN1Type → Option ASN1Type) → FoundFewer fewer (instance_at C defs M I contained) (instance_at D defs M J contained)
+  level_next contained = record { of_type = type_next; of_set = set_next contained; of_element = element_next contained; of_tag = tag_next; of_contained = λ scope ty. refl }
 
 -- ---- all levels
 
-nothing_fewer : (fewer : Names) (J : Instances) → FoundFewer fewer no_instance J
+-- what contents hold, one level up
+abbrev contained_at : Choices → Definitions → ℕ → ℕ → Scope → ASN1Type → Option ASN1Type
+contained_at C defs n k = type_at (keeping_all C) defs (meaning defs n) (instance (keeping_all C) defs n k) false
+
+nothing_fewer : (fewer : Names) → FoundFewer fewer no_instance no_instance
 unfolding no_instance
-nothing_fewer fewer J = record {
+nothing_fewer fewer = record {
   of_type = λ down scope ty uy e ok. absurd cc;
   of_set = λ scope s x y e ok. absurd cc;
   of_element = λ scope s x y e ok. absurd cc;
   of_tag = λ scope ty uy tag e ok g. absurd cc;
+  of_contained = λ scope ty. refl;
 }
 
 level : (C : Choices) (fewer : Names) (defs : Definitions) → AreFewer fewer C → (n i : ℕ) → FoundFewer fewer (instance C defs n i) (instance (with_names C fewer) defs n i)
 unfolding instance
-level C fewer defs less n zero = nothing_fewer fewer _
+level C fewer defs less n zero = nothing_fewer fewer
 level C fewer defs less n (suc i) =
-    level_next C fewer defs less (meaning defs n) (instance C defs n i) (instance (with_names C fewer) defs n i) (level C fewer defs less n i)
+    level_next C fewer defs less (meaning defs n) (instance C defs n i) (instance (with_names C fewer) defs n i) (level C fewer defs less n i) (contained_at C defs n i)
 
 pub fewer_names : (C : Choices) (fewer : Names) (defs : Definitions) (n k : ℕ) → AreFewer fewer C →
     (down : Bool) (scope : Scope) (ty uy : ASN1Type) → (instance C defs n k).of_type down scope ty ≡ Some uy → NamesStay fewer uy → (instance (with_names C fewer) defs n k).of_type down scope ty ≡ Some uy

@@ -15,7 +15,7 @@ use Rattle.asn_meaning.specs.Scopes.{Empty, Place, Scope}
 use Rattle.asn_meaning.specs.ValueTrees.{ValueTree}
 use Rattle.asn_meaning.proofs.Ways.{all_hold_append, narrowed_append}
 use Rattle.asn_instance.specs.Heads.{Alike, Before, constraints_made}
-use Rattle.asn_instance.specs.Instance.{constraint_instance, instance}
+use Rattle.asn_instance.specs.Instance.{constraint_instance, instance, content_instance}
 use Rattle.asn_instance.specs.Subjects.{Choices, OnValues, Subject}
 use Rattle.asn_instance.specs.Ways.{Known, Refined, Way}
 use Rattle.asn_instance.proofs.Below.{Below, Constrained, floor_before}
@@ -46,7 +46,7 @@ module _ (C : Choices) (defs : Definitions) where
   unlisted_one : (floor i : ℕ) (scope : Scope) (s : Subject) (l : ConstraintLayer) → Holds (constraint_instance C defs (meaning defs floor) (instance C defs floor i) scope s l) (λ ys. lists_in ys ≡ [])
   unlisted_one floor i scope s (Constraint-F.SubtypeConstraint x) = once_holds ((instance C defs floor i).of_set scope s x.set) _ _ (λ set e. ap (λ z. list_at z []) (out-roll-Constraint _))
   unlisted_one floor i scope s (Constraint-F.TableConstraint x) = once_holds (C.table (meaning defs floor) scope x) _ _ (λ set e. ap (λ z. list_at z []) (out-roll-Constraint _))
-  unlisted_one floor i scope s (Constraint-F.ContentConstraint x) = once_holds (C.content (meaning defs floor) scope x) _ _ (λ set e. ap (λ z. list_at z []) (out-roll-Constraint _))
+  unlisted_one floor i scope s (Constraint-F.ContentConstraint x) = once_holds (content_instance C defs (meaning defs floor) (instance C defs floor i) scope x) _ _ (λ set e. ap (λ z. list_at z []) (out-roll-Constraint _))
   unlisted_one floor i scope s (Constraint-F.Parameter ps) = refl
 
   pub unlisted : (floor i : ℕ) (scope : Scope) (p : Place) (cs : List Constraint) → Holds (constraints_made C defs floor i scope p cs) (λ ds. lists_in ds ≡ [])
@@ -83,7 +83,7 @@ module _ (C : Choices) (defs others : Definitions) (j : ℕ) (way : Way) (M L : 
         (λ u y w. lifted_known way in_both u y _ _ w (numbers_in_set_kept C defs others j way M L b scope (OnValues h) (ValuesOf h u) (ValuesOf k y) x.set set (floor, i, n, e) (refl, (k, y, refl, a, w)))))
     one_kept floor i n (Constraint-F.TableConstraint x) = once_holds (C.table (meaning defs floor) scope x) _ _ (λ y e.
         single_kept (Constraint-F.TableConstraint x) (Constraint-F.TableConstraint y) (λ u v t w. same_refined way Yes) (λ u v w. w))
-    one_kept floor i n (Constraint-F.ContentConstraint x) = once_holds (C.content (meaning defs floor) scope x) _ _ (λ y e.
+    one_kept floor i n (Constraint-F.ContentConstraint x) = once_holds (content_instance C defs (meaning defs floor) (instance C defs floor i) scope x) _ _ (λ y e.
         single_kept (Constraint-F.ContentConstraint x) (Constraint-F.ContentConstraint y) (λ u v t w. same_refined way Yes) (λ u v w. w))
     one_kept floor i n (Constraint-F.Parameter ps) = record {
       answers = λ x y t w. equal_refined way _ Yes (sym (if_same (is_free h) Yes));

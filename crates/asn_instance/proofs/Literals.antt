@@ -1,7 +1,9 @@
 -- Literals keep what values mean.
-use Rattle.std.proofs.Common.{Bool, List, None, Option, Some, ap, arith, false, inl, inr, refl, subst, suc, sym, true, zero, ℕ, ℤ, ◌&&◌, ◌+◌, ◌||◌, ◌∙◌, ◌≡◌, ◌⊎◌}
+use Rattle.std.proofs.Common.{Bool, List, [], ◌∷◌, map, None, Option, Some, ap, arith, false, inl, inr, refl, subst, suc, sym, true, zero, ℕ, ℤ, ◌&&◌, ◌+◌, ◌||◌, ◌∙◌, ◌≡◌, ◌⊎◌}
 use Rattle.std.specs.List.{find}
-use Rattle.std.specs.Prelude.{if◌then◌else◌, is_none, is_some}
+use Rattle.std.specs.Prelude.{encode_utf8_all, if◌then◌else◌, is_none, is_some}
+use Rattle.std.specs.Str.{bytes_eq, chars}
+use Rattle.std.proofs.lemmas.Slice.Eq.{bytes_eq-Decides}
 use Rattle.asn_kinds.specs.declared.types.Enumeral.{Enumeral}
 use Rattle.asn_tree.specs.declared.types.ChoiceOption.{ChoiceOption}
 use Rattle.asn_tree.specs.declared.values.ASN1Value.{ASN1Value}
@@ -11,23 +13,23 @@ use Rattle.asn_meaning.specs.Definitions.{Definitions, value_named}
 use Rattle.asn_meaning.specs.Denotes.{choice_row, defined_denoted, defined_read, denoted_under, is_open_kind, item_in, name_denoted, own_in, own_or_defined, parts_row, row_or_parts, struct_denoted, trees_denoted, value_denoted, written_denoted}
 use Rattle.asn_meaning.specs.Everything.{defined_is_all, is_all_at, name_is_all, read_is_all}
 use Rattle.asn_meaning.specs.Judge.{meaning, nothing_known, step}
-use Rattle.asn_meaning.specs.Kinds.{BitStringKind, BooleanKind, ChoiceKind, EnumeratedKind, FieldKind, IntegerKind, Kind, ListKind, NullKind, OctetStringKind, ReferenceKind, SelectionKind, StructKind, kind_of}
+use Rattle.asn_meaning.specs.Kinds.{BitStringKind, BooleanKind, CharacterStringKind, ChoiceKind, EnumeratedKind, FieldKind, IntegerKind, Kind, ListKind, NullKind, ObjectIdentifierKind, OctetStringKind, RealKind, ReferenceKind, SelectionKind, StructKind, TimeKind, kind_of}
 use Rattle.asn_meaning.specs.Meaning.{Meaning}
 use Rattle.asn_meaning.specs.Members.{item_named}
 use Rattle.asn_meaning.specs.Names.{IsHead, head_from, lead_at}
-use Rattle.asn_meaning.specs.Rows.{row}
+use Rattle.asn_meaning.specs.Rows.{arc_tree, row}
 use Rattle.asn_meaning.specs.Scopes.{Bound, Empty, Place, Scope, bound_to}
-use Rattle.asn_meaning.specs.ValueTrees.{Bits, Elements, ItemNumber, NullValue, Octets, Opaque, TruthValue, ValueTree, WholeNumber, same_number}
-use Rattle.asn_meaning.specs.Written.{AllWritten, BitNamesWritten, BitsWritten, NameWritten, NullWritten, NumberWritten, OctetsWritten, RealWritten, TextWritten, TruthWritten, Written, as_written, written_at}
+use Rattle.asn_meaning.specs.ValueTrees.{Arc, Bits, Characters, Elements, ItemNumber, NameArc, NullValue, NumberArc, ObjectIdentifierArcs, Octets, Opaque, RealNumber, TruthValue, ValueTree, WholeNumber, same_number}
+use Rattle.asn_meaning.specs.Written.{AllWritten, ArcsWritten, BitNamesWritten, BitsWritten, NameWritten, NullWritten, NumberWritten, OctetsWritten, RealWritten, TextWritten, TruthWritten, Written, as_written, written_at}
 use Rattle.asn_meaning.proofs.Steps.{more_known}
 use Rattle.asn_instance.specs.Heads.{Alike, Before, KeepsValues, KeepsValuesBack, ValuesKept}
-use Rattle.asn_instance.specs.Literals.{all_or, is_item_name, is_literal, is_own_head, item_numbered, literals, single_written, value_written, written_by_tree}
+use Rattle.asn_instance.specs.Literals.{all_or, is_item_name, is_literal, is_literal_under, is_own_arcs, is_own_head, item_numbered, literals, single_written, value_written, written_by_tree}
 use Rattle.asn_instance.specs.Ways.{Back, Forth, steps_back}
 use Rattle.asn_instance.proofs.Forms.{Blind, alike_blind}
 use Rattle.asn_instance.proofs.Holding.{Holds, once_holds, result_holds, some_same, then_holds, weaker}
 use Rattle.asn_instance.proofs.Kept.{steps_enough, steps_more}
 use Rattle.std.proofs.lemmas.Int.{ints}
-use Rattle.asn_instance.specs.Literals.{written}
+use Rattle.asn_instance.specs.Literals.{text_tree, written, written_arc}
 use Rattle.asn_tree.specs.declared.values.ASN1Value.TheVariants as value
 
 -- ---- literals
@@ -94,6 +96,37 @@ row_blind = record { structs = λ x y. refl; lists = λ x y. refl; choices = λ 
 names_blind : (name : List ℕ) → Blind (own_in name)
 names_blind name = record { structs = λ x y. refl; lists = λ x y. refl; choices = λ x y. refl; fields = λ x y. refl }
 
+-- ---- literals under a head
+
+pub or_is : (a c : Bool) → (a || c) ≡ true → (a ≡ true) ⊎ (c ≡ true)
+or_is true c e = inl refl
+or_is false c e = inr e
+
+record LiteralUnder (kind : Kind) (w : Written) : Type 0 where
+  denoted : (defs : Definitions) (M : Meaning) (s : Scope) (h : Place) → kind_of h ≡ kind → value_denoted defs M s h w ≡ by_row (row kind) w
+  all : (defs : Definitions) (M : Meaning) (s : Scope) (p : Place) → is_all_at defs M s p w ≡ answer_all w
+
+arcs_under : (kind : Kind) (w : Written) → is_own_arcs kind w ≡ true → LiteralUnder kind w
+unfolding by_row answer_all
+arcs_under ObjectIdentifierKind (ArcsWritten arcs) e =
+    record {
+      denoted = λ defs M s h f. ap (λ k. row_or_parts (row k) (parts_row M s (ArcsWritten arcs) h.scope k) (ArcsWritten arcs)) f;
+      all = λ defs M s p. refl;
+    }
+arcs_under _ _ e = absurd cc
+
+literal_under : (kind : Kind) (w : Written) → is_own_head kind ≡ true → is_literal_under kind w ≡ true → LiteralUnder kind w
+literal_under kind w own e = at (or_is (is_literal w) (is_own_arcs kind w) e)
+  where
+    at : (is_literal w ≡ true) ⊎ (is_own_arcs kind w ≡ true) → LiteralUnder kind w
+    at (inl is) =
+        let k = literal w is in
+        record { denoted = λ defs M s h f. literal_row defs M s h w k (ap is_own_head f ∙ own) ∙ ap (λ k. by_row (row k) w) f; all = k.all }
+    at (inr is) = arcs_under kind w is
+
+pub under_blind : (w : Written) → Blind (λ k. is_literal_under k w)
+under_blind w = record { structs = λ x y. refl; lists = λ x y. refl; choices = λ x y. refl; fields = λ x y. refl }
+
 -- ---- from a number of steps on
 
 -- from so many steps on a value denotes this, and this is said of whether it is ALL
@@ -108,20 +141,20 @@ module _ (defs : Definitions) where
   two : (n : ℕ) → 2 + n ≡ suc (suc n)
   two n = omega arith
 
-  literal_denotes : (n : ℕ) (s : Scope) (v : ASN1Value) (p : Place) → is_own_head (kind_of p) ≡ true → Literal (as_written v) → (meaning defs (suc (suc n))).denotes s v p ≡ by_row (row (kind_of p)) (as_written v)
+  literal_denotes : (n : ℕ) (s : Scope) (v : ASN1Value) (p : Place) → is_own_head (kind_of p) ≡ true → LiteralUnder (kind_of p) (as_written v) → (meaning defs (suc (suc n))).denotes s v p ≡ by_row (row (kind_of p)) (as_written v)
   unfolding meaning step
   literal_denotes n s v p e k =
       ap (λ z. once Unsure z (denoted_under defs (meaning defs (suc n)) s v)) (own_found n p e)
       ∙ ap (λ z. if z then Denoted Opaque else value_denoted defs (meaning defs (suc n)) s p (as_written v)) (own_closed (kind_of p) e)
-      ∙ literal_row defs (meaning defs (suc n)) s p (as_written v) k e
+      ∙ k.denoted defs (meaning defs (suc n)) s p refl
 
-  literal_all : (n : ℕ) (s : Scope) (v : ASN1Value) (p : Place) → Literal (as_written v) → (meaning defs (suc n)).is_all s v p ≡ answer_all (as_written v)
+  literal_all : (n : ℕ) (s : Scope) (v : ASN1Value) (p : Place) → LiteralUnder (kind_of p) (as_written v) → (meaning defs (suc n)).is_all s v p ≡ answer_all (as_written v)
   unfolding meaning step
   literal_all n s v p k = k.all defs (meaning defs n) s p
 
-  pub literal_from : (s : Scope) (v : ASN1Value) (p : Place) → is_own_head (kind_of p) ≡ true → is_literal (as_written v) ≡ true → From defs 2 s v p (by_row (row (kind_of p)) (as_written v)) (answer_all (as_written v))
+  pub literal_from : (s : Scope) (v : ASN1Value) (p : Place) → is_own_head (kind_of p) ≡ true → is_literal_under (kind_of p) (as_written v) ≡ true → From defs 2 s v p (by_row (row (kind_of p)) (as_written v)) (answer_all (as_written v))
   literal_from s v p e is n =
-      let k = literal (as_written v) is in
+      let k = literal_under (kind_of p) (as_written v) e is in
       (ap (λ z. (meaning defs z).denotes s v p) (two n) ∙ literal_denotes n s v p e k, ap (λ z. (meaning defs z).is_all s v p) (two n) ∙ literal_all (suc n) s v p k)
 
   -- an item's name, where it is no dummy
@@ -149,13 +182,13 @@ module _ (defs : Definitions) where
 -- ---- the literal of a tree
 
 pub record WrittenOf (kind : Kind) (t : ValueTree) (w : ASN1Value) : Type 0 where
-  pub is : is_literal (as_written w) ≡ true
+  pub is : is_literal_under kind (as_written w) ≡ true
   pub denotes : by_row (row kind) (as_written w) ≡ Denoted t
   pub not_all : answer_all (as_written w) ≡ No
 
-made_literal : (kind : Kind) (t : ValueTree) (w : ASN1Value) (u : Written) → as_written w ≡ u → is_literal u ≡ true → by_row (row kind) u ≡ Denoted t → answer_all u ≡ No → WrittenOf kind t w
+made_literal : (kind : Kind) (t : ValueTree) (w : ASN1Value) (u : Written) → as_written w ≡ u → is_literal_under kind u ≡ true → by_row (row kind) u ≡ Denoted t → answer_all u ≡ No → WrittenOf kind t w
 made_literal kind t w u s e f g = record {
-  is = ap is_literal s ∙ e;
+  is = ap (is_literal_under kind) s ∙ e;
   denotes = ap (by_row (row kind)) s ∙ f;
   not_all = ap answer_all s ∙ g;
 }
@@ -180,6 +213,23 @@ numbered items i = once_holds (find (λ item. same_number item.index i) items) _
     at item k v true e = ap (λ z. once None z (λ k. Some (ItemNumber k))) v ∙ ap (λ z. Some (ItemNumber z)) (same_number_is k i e)
     at item k v false e = tt
 
+arcs_again : (arcs : List Arc) → map arc_tree (map written_arc arcs) ≡ arcs
+arcs_again [] = refl
+arcs_again (NumberArc n ∷ arcs) = ap (λ xs. NumberArc n ∷ xs) (arcs_again arcs)
+arcs_again (NameArc name ∷ arcs) = ap (λ xs. NameArc name ∷ xs) (arcs_again arcs)
+
+text_literal : (kind : Kind) (cs text : List ℕ) → chars text ≡ cs → by_row (row kind) (TextWritten text) ≡ Denoted (Characters (chars text)) → Means kind (Characters cs) (value.String text)
+unfolding answer_all
+text_literal kind cs text same denoted =
+    inl (made_literal kind (Characters cs) (value.String text) (TextWritten text) (ap written_at (value.outs-String text)) refl (denoted ∙ ap (λ z. Denoted (Characters z)) same) refl)
+
+text_made : (kind : Kind) (cs : List ℕ) → ((text : List ℕ) → by_row (row kind) (TextWritten text) ≡ Denoted (Characters (chars text))) → Holds (text_tree (Characters cs)) (Means kind (Characters cs))
+text_made kind cs denoted = at (bytes_eq (chars (encode_utf8_all cs)) cs) refl
+  where
+    at : (b : Bool) → bytes_eq (chars (encode_utf8_all cs)) cs ≡ b → Holds (once None (if b then Some (encode_utf8_all cs) else None) (λ text. Some (value.String text))) (Means kind (Characters cs))
+    at true e = text_literal kind cs (encode_utf8_all cs) ((bytes_eq-Decides (chars (encode_utf8_all cs)) cs).0 e) (denoted (encode_utf8_all cs))
+    at false e = tt
+
 written_of : (kind : Kind) (t : ValueTree) → Holds (written kind t) (Means kind t)
 unfolding by_row answer_all
 written_of (EnumeratedKind items) (ItemNumber i) = then_holds (item_numbered items i) _ (λ name. once None (item_named items name) (λ k. Some (ItemNumber k)) ≡ Some (ItemNumber i)) _ (numbered items i) (λ name u e.
@@ -189,13 +239,21 @@ written_of BooleanKind (TruthValue b) = inl (made_literal BooleanKind (TruthValu
 written_of (IntegerKind names) (WholeNumber i) = inl (made_literal (IntegerKind names) (WholeNumber i) (value.Integer i) (NumberWritten i) (ap written_at (value.outs-Integer i)) refl refl refl)
 written_of (BitStringKind names) (Bits bits) = inl (made_literal (BitStringKind names) (Bits bits) (value.BitString bits) (BitsWritten bits) (ap written_at (value.outs-BitString bits)) refl refl refl)
 written_of OctetStringKind (Octets octets) = inl (made_literal OctetStringKind (Octets octets) (value.OctetString octets) (OctetsWritten octets) (ap written_at (value.outs-OctetString octets)) refl refl refl)
+written_of RealKind (RealNumber m b e) =
+    inl (made_literal RealKind (RealNumber m b e) (value.Real (record { mantissa = m; base = b; exponent = e })) (RealWritten (record { mantissa = m; base = b; exponent = e })) (ap written_at (value.outs-Real _)) refl refl refl)
+written_of ObjectIdentifierKind (ObjectIdentifierArcs arcs) =
+    inl
+    (made_literal ObjectIdentifierKind (ObjectIdentifierArcs arcs) (value.ObjectIdentifier (record { 0 = map written_arc arcs })) (ArcsWritten (map written_arc arcs)) (ap written_at (value.outs-ObjectIdentifier _)) refl
+    (ap (λ z. Denoted (ObjectIdentifierArcs z)) (arcs_again arcs)) refl)
+written_of (CharacterStringKind ty) (Characters cs) = text_made (CharacterStringKind ty) cs (λ text. refl)
+written_of TimeKind (Characters cs) = text_made TimeKind cs (λ text. refl)
 written_of _ _ = tt
 
 -- ---- what is chosen
 
 abbrev pub Chosen : Scope → Answer → Denotation ValueTree → Kind → ASN1Value → ASN1Value → Type 0
 Chosen scope a d kind v w =
-    ((is_literal (as_written v) ≡ true) × (w ≡ v)) ⊎ (((w ≡ v) × ((t : ValueTree) × (k : NameOf kind t v) × (bound_to scope k.name ≡ None))) ⊎ ((t : ValueTree) × (a ≡ No) × (d ≡ Denoted t) × Means kind t w))
+    ((is_literal_under kind (as_written v) ≡ true) × (w ≡ v)) ⊎ (((w ≡ v) × ((t : ValueTree) × (k : NameOf kind t v) × (bound_to scope k.name ≡ None))) ⊎ ((t : ValueTree) × (a ≡ No) × (d ≡ Denoted t) × Means kind t w))
 
 by_tree : (scope : Scope) (a : Answer) (d : Denotation ValueTree) (kind : Kind) (v : ASN1Value) → Holds (written_by_tree a d kind) (Chosen scope a d kind v)
 by_tree scope No (Denoted t) kind v = at (written kind t) (written_of kind t)
@@ -217,18 +275,14 @@ item_is scope (EnumeratedKind items) v (NameWritten None name) same e = at (boun
     at (Some a) f c g e = absurd cc
 item_is scope kind v u same e = absurd cc
 
-or_is : (a c : Bool) → (a || c) ≡ true → (a ≡ true) ⊎ (c ≡ true)
-or_is true c e = inl refl
-or_is false c e = inr e
-
 pub chosen : (M : Meaning) (scope : Scope) (v : ASN1Value) (p : Place) → Holds (value_written M scope v p) (λ w. (is_own_head (kind_of p) ≡ true) × Chosen scope (M.is_all scope v p) (M.denotes scope v p) (kind_of p) v w)
-chosen M scope v p = at (is_own_head (kind_of p)) refl (is_literal (as_written v) || is_item_name scope (kind_of p) (as_written v)) refl
+chosen M scope v p = at (is_own_head (kind_of p)) refl (is_literal_under (kind_of p) (as_written v) || is_item_name scope (kind_of p) (as_written v)) refl
   where
-    stays : (is_literal (as_written v) ≡ true) ⊎ (is_item_name scope (kind_of p) (as_written v) ≡ true) → Chosen scope (M.is_all scope v p) (M.denotes scope v p) (kind_of p) v v
+    stays : (is_literal_under (kind_of p) (as_written v) ≡ true) ⊎ (is_item_name scope (kind_of p) (as_written v) ≡ true) → Chosen scope (M.is_all scope v p) (M.denotes scope v p) (kind_of p) v v
     stays (inl e) = inl (e, refl)
     stays (inr e) = inr (inl (refl, item_is scope (kind_of p) v (as_written v) refl e))
 
-    at : (c : Bool) → is_own_head (kind_of p) ≡ c → (d : Bool) → (is_literal (as_written v) || is_item_name scope (kind_of p) (as_written v)) ≡ d →
+    at : (c : Bool) → is_own_head (kind_of p) ≡ c → (d : Bool) → (is_literal_under (kind_of p) (as_written v) || is_item_name scope (kind_of p) (as_written v)) ≡ d →
         Holds (if c then (if d then Some v else written_by_tree (M.is_all scope v p) (M.denotes scope v p) (kind_of p)) else None) (λ w. (is_own_head (kind_of p) ≡ true) × Chosen scope (M.is_all scope v p) (M.denotes scope v p) (kind_of p) v w)
     at false e d f = tt
     at true e true f = (e, stays (or_is _ _ f))
@@ -289,17 +343,17 @@ module _ (keeps : Option (List ℕ) → List ℕ → Bool) (defs others : Defini
   there_means : (p q : Place) → is_own_head (kind_of p) ≡ true → Alike (literals keeps) defs others j p q → (t : ValueTree) (w : ASN1Value) → Means (kind_of p) t w → From others 2 Empty w q (Denoted t) No
   there_means p q own a t w (inl k) n =
       let here : is_own_head (kind_of q) ≡ true = alike_blind (literals keeps) defs others is_own_head own_blind j p q a ∙ own in
-      let r = literal_from others Empty w q here k.is n in
+      let r = literal_from others Empty w q here (alike_blind (literals keeps) defs others (λ k. is_literal_under k (as_written w)) (under_blind (as_written w)) j p q a ∙ k.is) n in
       (r.0 ∙ ap (λ z. by_row z (as_written w)) (alike_blind (literals keeps) defs others row row_blind j p q a) ∙ k.denotes, r.1 ∙ k.not_all)
   there_means p q own a t w (inr k) n =
       let here : is_own_head (kind_of q) ≡ true = alike_blind (literals keeps) defs others is_own_head own_blind j p q a ∙ own in
       let has : own_in k.name (kind_of q) ≡ Some t = alike_blind (literals keeps) defs others (own_in k.name) (names_blind k.name) j p q a ∙ k.own in
       item_from others Empty w q k.name t here k.is refl has n
 
-  there_literal : (p q : Place) (w : ASN1Value) → is_own_head (kind_of p) ≡ true → Alike (literals keeps) defs others j p q → is_literal (as_written w) ≡ true → From others 2 Empty w q (by_row (row (kind_of p)) (as_written w)) (answer_all (as_written w))
+  there_literal : (p q : Place) (w : ASN1Value) → is_own_head (kind_of p) ≡ true → Alike (literals keeps) defs others j p q → is_literal_under (kind_of p) (as_written w) ≡ true → From others 2 Empty w q (by_row (row (kind_of p)) (as_written w)) (answer_all (as_written w))
   there_literal p q w own a is n =
       let here : is_own_head (kind_of q) ≡ true = alike_blind (literals keeps) defs others is_own_head own_blind j p q a ∙ own in
-      let r = literal_from others Empty w q here is n in
+      let r = literal_from others Empty w q here (alike_blind (literals keeps) defs others (λ k. is_literal_under k (as_written w)) (under_blind (as_written w)) j p q a ∙ is) n in
       (r.0 ∙ ap (λ z. by_row z (as_written w)) (alike_blind (literals keeps) defs others row row_blind j p q a), r.1)
 
   chosen_meant : (i : ℕ) (scope : Scope) (v w : ASN1Value) (p q : Place) → is_own_head (kind_of p) ≡ true → Alike (literals keeps) defs others j p q → Chosen scope ((meaning defs i).is_all scope v p) ((meaning defs i).denotes scope v p) (kind_of p) v w → Meant i scope v w p q

@@ -14,7 +14,7 @@ use Rattle.asn_meaning.specs.Written.{AllWritten, Written, as_written, written_a
 use Rattle.asn_meaning.proofs.Answering.{if_within, once_within, same_within}
 use Rattle.asn_meaning.proofs.More.{More}
 use Rattle.asn_meaning.proofs.Steps.{one_more}
-use Rattle.asn_instance.specs.Literals.{all_or, default_under, default_written, is_dummy, is_item_name, is_literal, is_own_head, is_unbound_name, literals, single_written, value_written, written, written_by_tree}
+use Rattle.asn_instance.specs.Literals.{all_or, default_under, default_written, is_dummy, is_item_name, is_literal_under, is_own_head, is_unbound, literals, single_written, value_written, written, written_by_tree}
 use Rattle.asn_instance.specs.Steady.{Steady}
 use Rattle.asn_instance.proofs.Holding.{Holds, weaker}
 use Rattle.asn_instance.proofs.Literals.{Chosen, all_less, answer_all, chosen, item_from, literal_from}
@@ -47,11 +47,11 @@ module _ (M N : Meaning) (m : More M N) (scope : Scope) (v : ASN1Value) where
   value_again : (p : Place) → Within (value_written M scope v p) (value_written N scope v p)
   value_again p =
       if_within (is_own_head (kind_of p)) _ _ _ _
-      (if_within (is_literal (as_written v) || is_item_name scope (kind_of p) (as_written v)) _ _ _ _ refl (tree_again _ _ _ _ (kind_of p) (m.is_all scope v p) (m.denotes scope v p))) tt
+      (if_within (is_literal_under (kind_of p) (as_written v) || is_item_name scope (kind_of p) (as_written v)) _ _ _ _ refl (tree_again _ _ _ _ (kind_of p) (m.is_all scope v p) (m.denotes scope v p))) tt
 
   under_again : (head : Place) → Within (default_under M scope v head) (default_under N scope v head)
   under_again head =
-      if_within (is_literal (as_written v) || is_unbound_name scope (as_written v)) _ _ _ _ refl
+      if_within (is_unbound scope v) _ _ _ _ refl
       (if_within (is_dummy scope (as_written v)) _ _ _ _ (tree_again No No _ _ (kind_of head) refl (m.denotes scope v head)) tt)
 
 default_again : (M N : Meaning) → More M N → (scope : Scope) (v : ASN1Value) (p : Place) → Within (default_written M scope v p) (default_written N scope v p)
@@ -111,6 +111,5 @@ literals_steady keeps defs i = record {
   value = single_again defs i;
   end = λ scope v p. value_again (meaning defs i) (meaning defs (suc i)) (one_more defs i) scope v p;
   default = default_again (meaning defs i) (meaning defs (suc i)) (one_more defs i);
-  content = λ scope c. same_within _;
   table = λ scope x. refl;
 }

@@ -1,5 +1,7 @@
 -- What is found stays as it is within more levels, and where more steps tell more.
 use Rattle.std.proofs.Common.{Bool, List, None, Option, Some, [], arith, false, refl, subst, suc, sym, true, zero, ℕ, ◌+◌, ◌∷◌, ◌≡◌}
+use Rattle.asn_tree.specs.Layers.{ContentLayer}
+use Rattle.asn_tree.specs.declared.constraints.ContentConstraint.{ContentConstraint, ContentConstraint-F, out-ContentConstraint, roll-ContentConstraint}
 use Rattle.asn_headers.specs.declared.headers.AsnTag.{AsnTag}
 use Rattle.asn_tree.specs.declared.constraints.Constraint.{Constraint, Constraint-F, out-Constraint}
 use Rattle.asn_tree.specs.declared.constraints.ElementOrSetOperation.{ElementOrSetOperation-F, out-ElementOrSetOperation}
@@ -23,14 +25,14 @@ use Rattle.asn_meaning.specs.Members.{element_place, is_addition_at}
 use Rattle.asn_meaning.specs.Names.{FieldType, Fixed, Open, class_field_type, head_named, option_named, options_of, reference_target, selection_target}
 use Rattle.asn_meaning.specs.Placed.{listed}
 use Rattle.asn_meaning.specs.Ranges.{integer_named}
-use Rattle.asn_meaning.specs.Scopes.{Empty, Place, Scope, Target, bare}
+use Rattle.asn_meaning.specs.Scopes.{Empty, Place, Scope, Target, bare, Binds, LeavesOpen}
 use Rattle.asn_meaning.specs.ValueTrees.{same_truth}
 use Rattle.asn_meaning.proofs.Answering.{given_within, if_within, once_within, same_within}
 use Rattle.asn_meaning.proofs.More.{More}
 use Rattle.asn_meaning.proofs.Steps.{more_known, one_more}
-use Rattle.asn_instance.specs.Instance.{Instances, component_instance, constrained, constraint_instance, element_instance, extended, field_instance, first_tag, has_no_place, inner_instance, instance, instance_at, list_instance, listed_instance, member_instance, no_instance, of_constraints, of_members, of_options, operation_instance, option_instance, own_tag, part_named, placed_tag, replaced, set_instance, stays, struct_instance, tag_instance, type_instance}
+use Rattle.asn_instance.specs.Instance.{Instances, component_instance, constrained, constraint_instance, element_instance, extended, field_instance, first_tag, has_no_place, inner_instance, instance, instance_at, list_instance, listed_instance, member_instance, no_instance, of_constraints, of_members, of_options, operation_instance, option_instance, own_tag, part_named, placed_tag, replaced, set_instance, stays, struct_instance, tag_instance, type_instance, content_bound, content_instance, type_at}
 use Rattle.asn_instance.specs.Steady.{ChosenAgain, FoundAgain, Steady}
-use Rattle.asn_instance.specs.Subjects.{Choices, OnCharacters, OnValues, Subject, gathered, perhaps, traversed}
+use Rattle.asn_instance.specs.Subjects.{Choices, OnCharacters, OnValues, Subject, gathered, perhaps, traversed, keeping_all}
 
 -- ---- lists and what may be absent
 
@@ -54,13 +56,25 @@ abbrev tag_by : ChoiceSelectionType → Option Place → Option AsnTag
 tag_by x a = once None a (λ h. once None (option_named (options_of h) x.selected_option) (λ o. o.tag))
 
 module _ (C : Choices) (defs : Definitions) (M N : Meaning) (I J : Instances) (m : More M N) (c : ChosenAgain C M N) (f : FoundAgain I J) where
+  -- ---- contents
+
+  bound_again : (scope : Scope) (l : ContentLayer) → Within (content_bound C defs M I scope l) (content_bound C defs N J scope l)
+  bound_again scope (ContentConstraint-F.Containing ty) = once_within _ _ _ _ (f.of_contained scope ty) (λ uy. refl)
+  bound_again scope (ContentConstraint-F.EncodedBy rules) = once_within _ _ _ _ (c.default scope rules _) (λ r. refl)
+  bound_again scope (ContentConstraint-F.ContainingEncodedBy ty rules) = once_within _ _ _ _ (f.of_contained scope ty) (λ uy. once_within _ _ _ _ (c.default scope rules _) (λ r. refl))
+
+  content_again : (scope : Scope) (x : ContentConstraint) → Within (content_instance C defs M I scope x) (content_instance C defs N J scope x)
+  content_again Empty x = refl
+  content_again (Binds dummy governor argument scope others) x = once_within _ _ _ _ (bound_again (Binds dummy governor argument scope others) (out-ContentConstraint x)) (λ l. refl)
+  content_again (LeavesOpen dummy governor others) x = once_within _ _ _ _ (bound_again (LeavesOpen dummy governor others) (out-ContentConstraint x)) (λ l. refl)
+
   -- ---- constraints
 
   constraint_again : (scope : Scope) (s : Subject) (l : ConstraintLayer) → Within (constraint_instance C defs M I scope s l) (constraint_instance C defs N J scope s l)
   constraint_again scope s (Constraint-F.SubtypeConstraint x) = once_within _ _ _ _ (f.of_set scope s x.set) (λ set. refl)
   constraint_again scope s (Constraint-F.TableConstraint x) = once_within _ _ _ _ (c.table scope x) (λ y. refl)
   constraint_again scope s (Constraint-F.Parameter arguments) = refl
-  constraint_again scope s (Constraint-F.ContentConstraint x) = once_within _ _ _ _ (c.content scope x) (λ y. refl)
+  constraint_again scope s (Constraint-F.ContentConstraint x) = once_within _ _ _ _ (content_again scope x) (λ y. refl)
 
   constraints_again : (scope : Scope) (p : Place) (cs : List Constraint) → Within (of_constraints C defs M I scope p cs) (of_constraints C defs N J scope p cs)
   constraints_again scope p cs = gathered_within _ _ (λ d. once_within _ _ _ _ (m.head p) (λ head. constraint_again scope (OnValues head) (out-Constraint d))) cs
@@ -186,9 +200,13 @@ module _ (C : Choices) (defs : Definitions) (M N : Meaning) (I J : Instances) (m
   type_again down scope ty (ASN1Type-F.SetOf x) = once_within _ _ _ _ (list_again scope ty (out-SequenceOrSetOf x)) (λ y. refl)
   type_again down scope ty l = constrained_again scope ty l
 
-  level_again : FoundAgain (instance_at C defs M I) (instance_at C defs N J)
-  level_again = record {
-    of_type = λ down scope ty. once_within _ _ _ _ (type_again down scope ty (out-ASN1Type ty)) (λ l. refl);
+  pub at_again : (down : Bool) (scope : Scope) (ty : ASN1Type) → Within (type_at C defs M I down scope ty) (type_at C defs N J down scope ty)
+  at_again down scope ty = once_within _ _ _ _ (type_again down scope ty (out-ASN1Type ty)) (λ l. refl)
+
+  level_again : (a b : Scope → ASN1Type → Option ASN1Type) → ((scope : Scope) (ty : ASN1Type) → Within (a scope ty) (b scope ty)) → FoundAgain (instance_at C defs M I a) (instance_at C defs N J b)
+  level_again a b contained = record {
+    of_type = at_again;
+    of_contained = contained;
     of_set = λ scope s set. once_within _ _ _ _ (set_again scope s (out-ElementOrSetOperation set)) (λ l. refl);
     of_element = λ scope s e. once_within _ _ _ _ (element_again scope s (out-SubtypeElement e)) (λ l. refl);
     of_tag = λ scope ty. tag_again scope (out-ASN1Type ty);
@@ -198,33 +216,38 @@ module _ (C : Choices) (defs : Definitions) (M N : Meaning) (I J : Instances) (m
 
 none_found : (J : Instances) → FoundAgain no_instance J
 unfolding no_instance
-none_found J = record { of_type = λ down scope ty. tt; of_set = λ scope s set. tt; of_element = λ scope s e. tt; of_tag = λ scope ty. tt }
+none_found J = record { of_type = λ down scope ty. tt; of_set = λ scope s set. tt; of_element = λ scope s e. tt; of_tag = λ scope ty. tt; of_contained = λ scope ty. tt }
 
-module _ (C : Choices) (defs : Definitions) (steady : Steady C defs) where
-  same_chosen : (M : Meaning) → ChosenAgain C M M
-  same_chosen M =
-      record {
-        value = λ scope v p. same_within _;
-        end = λ scope v p. same_within _;
-        default = λ scope v p. same_within _;
-        content = λ scope c. same_within _;
-        table = λ scope x. same_within _;
-      }
+same_chosen : (C : Choices) (M : Meaning) → ChosenAgain C M M
+same_chosen C M = record { value = λ scope v p. same_within _; end = λ scope v p. same_within _; default = λ scope v p. same_within _; table = λ scope x. same_within _ }
 
-  same_more : (n : ℕ) → More (meaning defs n) (meaning defs n)
-  same_more n = let e : n + zero ≡ n = omega arith in subst (λ z. More (meaning defs n) (meaning defs z)) e (more_known defs n zero)
+same_more : (defs : Definitions) (n : ℕ) → More (meaning defs n) (meaning defs n)
+same_more defs n = let e : n + zero ≡ n = omega arith in subst (λ z. More (meaning defs n) (meaning defs z)) e (more_known defs n zero)
 
-  level_more : (n k : ℕ) → FoundAgain (instance C defs n k) (instance C defs n (suc k))
-  unfolding instance
-  level_more n zero = none_found _
-  level_more n (suc k) =
-      level_again C defs (meaning defs n) (meaning defs n) (instance C defs n k) (instance C defs n (suc k)) (same_more n) (same_chosen (meaning defs n)) (level_more n k)
+-- which names may stay is asked for no value
+all_chosen : (C : Choices) (M N : Meaning) → ChosenAgain C M N → ChosenAgain (keeping_all C) M N
+all_chosen C M N c = record { value = c.value; end = c.end; default = c.default; table = c.table }
 
-  step_more : (n k : ℕ) → FoundAgain (instance C defs n k) (instance C defs (suc n) k)
-  unfolding instance
-  step_more n zero = none_found _
-  step_more n (suc k) =
-      level_again C defs (meaning defs n) (meaning defs (suc n)) (instance C defs n k) (instance C defs (suc n) k) (one_more defs n) (steady n) (step_more n k)
+level_more : (C : Choices) (defs : Definitions) (n k : ℕ) → FoundAgain (instance C defs n k) (instance C defs n (suc k))
+unfolding instance
+level_more C defs n zero = none_found _
+level_more C defs n (suc k) =
+    let M = meaning defs n in
+    let A = keeping_all C in
+    level_again C defs M M (instance C defs n k) (instance C defs n (suc k)) (same_more defs n) (same_chosen C M) (level_more C defs n k)
+    (type_at A defs M (instance A defs n k) false) (type_at A defs M (instance A defs n (suc k)) false)
+    (at_again A defs M M (instance A defs n k) (instance A defs n (suc k)) (same_more defs n) (same_chosen A M) (level_more A defs n k) false)
+
+step_more : (C : Choices) (defs : Definitions) → Steady C defs → (n k : ℕ) → FoundAgain (instance C defs n k) (instance C defs (suc n) k)
+unfolding instance
+step_more C defs steady n zero = none_found _
+step_more C defs steady n (suc k) =
+    let M = meaning defs n in
+    let N = meaning defs (suc n) in
+    let A = keeping_all C in
+    level_again C defs M N (instance C defs n k) (instance C defs (suc n) k) (one_more defs n) (steady n) (step_more C defs steady n k)
+    (type_at A defs M (instance A defs n k) false) (type_at A defs N (instance A defs (suc n) k) false)
+    (at_again A defs M N (instance A defs n k) (instance A defs (suc n) k) (one_more defs n) (all_chosen C M N (steady n)) (step_more A defs (λ i. all_chosen C (meaning defs i) (meaning defs (suc i)) (steady i)) n k) false)
 
 pub more_levels : (C : Choices) (defs : Definitions) → Steady C defs → (n k : ℕ) → FoundAgain (instance C defs n k) (instance C defs n (suc k)) × FoundAgain (instance C defs n k) (instance C defs (suc n) k)
-more_levels C defs steady n k = (level_more C defs steady n k, step_more C defs steady n k)
+more_levels C defs steady n k = (level_more C defs n k, step_more C defs steady n k)

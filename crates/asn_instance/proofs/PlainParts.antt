@@ -20,7 +20,7 @@ use Rattle.asn_meaning.proofs.Answering.{one_of}
 use Rattle.asn_meaning.proofs.More.{lead_more}
 use Rattle.asn_meaning.proofs.Steps.{more_known}
 use Rattle.asn_instance.specs.Heads.{Alike, KeepsValues, constraints_made}
-use Rattle.asn_instance.specs.Instance.{constraint_instance, instance}
+use Rattle.asn_instance.specs.Instance.{constraint_instance, instance, content_instance}
 use Rattle.asn_instance.specs.Linked.{SameOrLinked}
 use Rattle.asn_instance.specs.Plain.{Eventually, PutOn, StandsAsHead}
 use Rattle.asn_instance.specs.Subjects.{Choices, OnValues, Subject}
@@ -153,7 +153,7 @@ module _ (C : Choices) (defs others : Definitions) (k : ℕ) (linked : SameOrLin
         (chain_set q set (below.of_set scope (OnValues h) x.set set e q alike stands)))
     constraint_made h (Constraint-F.TableConstraint x) = once_holds (C.table (meaning defs floor) scope x) _ _ (λ y e q alike stands.
         always (λ m. and_true (constraint_plain (meaning others m) (plainness others m) q (out-Constraint (roll-Constraint (Constraint-F.TableConstraint y)))) true (ap (constraint_plain (meaning others m) (plainness others m) q) (out-roll-Constraint (Constraint-F.TableConstraint y))) refl))
-    constraint_made h (Constraint-F.ContentConstraint x) = once_holds (C.content (meaning defs floor) scope x) _ _ (λ y e q alike stands.
+    constraint_made h (Constraint-F.ContentConstraint x) = once_holds (content_instance C defs (meaning defs floor) (instance C defs floor i) scope x) _ _ (λ y e q alike stands.
         always (λ m. and_true (constraint_plain (meaning others m) (plainness others m) q (out-Constraint (roll-Constraint (Constraint-F.ContentConstraint y)))) true (ap (constraint_plain (meaning others m) (plainness others m) q) (out-roll-Constraint (Constraint-F.ContentConstraint y))) refl))
     constraint_made h (Constraint-F.Parameter ps) = λ q alike stands. always (λ m. refl)
 

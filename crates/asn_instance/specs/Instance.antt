@@ -1,6 +1,7 @@
 -- The instance of a type: what linking makes of it, to be read in the empty scope.
 use Rattle.std.specs.Prelude.{is_some, ℕ, zero, suc, Bool, true, false, not, ◌&&◌, length, List, [], ◌∷◌, ◌++◌, is_none, Option, Some, None, if◌then◌else◌}
 use Rattle.asn_tree.specs.declared.constraints.Constraint.{Constraint, Constraint-F, out-Constraint, roll-Constraint}
+use Rattle.asn_tree.specs.declared.constraints.ContentConstraint.{ContentConstraint, ContentConstraint-F, out-ContentConstraint, roll-ContentConstraint}
 use Rattle.asn_tree.specs.declared.constraints.ElementOrSetOperation.{ElementOrSetOperation, ElementOrSetOperation-F, out-ElementOrSetOperation, roll-ElementOrSetOperation}
 use Rattle.asn_tree.specs.declared.constraints.SetOperation.{out-SetOperation, roll-SetOperation}
 use Rattle.asn_tree.specs.declared.constraints.SubtypeElement.{SubtypeElement, SubtypeElement-F, out-SubtypeElement, roll-SubtypeElement}
@@ -12,6 +13,7 @@ use Rattle.asn_tree.specs.declared.types.SequenceOrSet.{out-SequenceOrSet, roll-
 use Rattle.asn_tree.specs.declared.types.SequenceOrSetMember.{SequenceOrSetMember, roll-SequenceOrSetMember}
 use Rattle.asn_tree.specs.declared.types.SequenceOrSetOf.{out-SequenceOrSetOf, roll-SequenceOrSetOf}
 use Rattle.asn_notation.specs.Types.{constraints_at}
+use Rattle.asn_tree.specs.Layers.{ContentLayer}
 use Rattle.asn_meaning.specs.Accepts.{place}
 use Rattle.asn_meaning.specs.Answers.{once}
 use Rattle.asn_meaning.specs.Definitions.{Definitions, type_named}
@@ -27,7 +29,7 @@ use Rattle.asn_meaning.specs.Scopes.{Scope, Empty, bound_to, Place, Target, bare
 use Rattle.asn_meaning.specs.Shapes.{option_place}
 use Rattle.asn_meaning.specs.ValueTrees.{same_truth}
 use Rattle.asn_calls.specs.Types.{with_constraints_at}
-use Rattle.asn_instance.specs.Subjects.{Subject, OnValues, OnCharacters, values_read, ends_read, Choices, gathered, traversed, perhaps}
+use Rattle.asn_instance.specs.Subjects.{Subject, OnValues, OnCharacters, values_read, ends_read, rules_read, Choices, keeping_all, gathered, traversed, perhaps}
 
 -- What is found of instances within a number of levels. `down` asks for the type down to the head: there a plain name is
 -- followed too.
@@ -37,6 +39,8 @@ pub record Instances : Type 0 where
   pub of_element : Scope → Subject → SubtypeElement → Option SubtypeElement
   -- the tag that a type brings to its place where another takes its place
   pub of_tag : Scope → ASN1Type → Option (Option AsnTag)
+  -- a type that a content holds: every name in it may stay
+  pub of_contained : Scope → ASN1Type → Option ASN1Type
 
 abbrev pub is_empty : {A : Type 0} → List A → Bool
 is_empty [] = true
@@ -64,6 +68,20 @@ abbrev pub stays : Choices → Bool → Scope → ReferenceLayer → Bool
 stays C down scope x = stays_at C down scope x x.parent
 
 module _ (C : Choices) (defs : Definitions) (M : Meaning) (I : Instances) where
+  -- ---- contents
+
+  -- the type that is contained, and the encoding rules, each as it is in the scope
+  abbrev pub content_bound : Scope → ContentLayer → Option ContentLayer
+  content_bound scope (ContentConstraint-F.Containing ty) = once None (I.of_contained scope ty) (λ uy. Some (ContentConstraint-F.Containing uy))
+  content_bound scope (ContentConstraint-F.EncodedBy rules) = once None (C.default M scope rules rules_read) (λ r. Some (ContentConstraint-F.EncodedBy r))
+  content_bound scope (ContentConstraint-F.ContainingEncodedBy ty rules) =
+      once None (I.of_contained scope ty) (λ uy. once None (C.default M scope rules rules_read) (λ r. Some (ContentConstraint-F.ContainingEncodedBy uy r)))
+
+  -- in the empty scope it stays
+  abbrev pub content_instance : Scope → ContentConstraint → Option ContentConstraint
+  content_instance Empty c = Some c
+  content_instance scope c = once None (content_bound scope (out-ContentConstraint c)) (λ l. Some (roll-ContentConstraint l))
+
   -- ---- constraints
 
   -- An argument list falls away; the other constraints stay, each with what stands for it.
@@ -71,7 +89,7 @@ module _ (C : Choices) (defs : Definitions) (M : Meaning) (I : Instances) where
   constraint_instance scope j (Constraint-F.SubtypeConstraint x) = once None (I.of_set scope j x.set) (λ set. Some (roll-Constraint (Constraint-F.SubtypeConstraint (record x { set = set })) ∷ []))
   constraint_instance scope j (Constraint-F.TableConstraint x) = once None (C.table M scope x) (λ y. Some (roll-Constraint (Constraint-F.TableConstraint y) ∷ []))
   constraint_instance scope j (Constraint-F.Parameter arguments) = Some []
-  constraint_instance scope j (Constraint-F.ContentConstraint x) = once None (C.content M scope x) (λ y. Some (roll-Constraint (Constraint-F.ContentConstraint y) ∷ []))
+  constraint_instance scope j (Constraint-F.ContentConstraint x) = once None (content_instance scope x) (λ y. Some (roll-Constraint (Constraint-F.ContentConstraint y) ∷ []))
 
   -- constraints, written in a scope, on a type; without any its head is not asked for
   abbrev pub of_constraints : Scope → Place → List Constraint → Option (List Constraint)
@@ -226,10 +244,16 @@ module _ (C : Choices) (defs : Definitions) (M : Meaning) (I : Instances) where
   type_instance down scope ty (ASN1Type-F.SetOf x) = once None (list_instance scope ty (out-SequenceOrSetOf x)) (λ y. Some (ASN1Type-F.SetOf (roll-SequenceOrSetOf y)))
   type_instance down scope ty l = constrained scope ty l
 
-  -- one level more
-  abbrev pub instance_at : Instances
-  instance_at = record {
-    of_type = λ down scope ty. once None (type_instance down scope ty (out-ASN1Type ty)) (λ l. Some (roll-ASN1Type l));
+  -- ---- one level more
+
+  abbrev pub type_at : Bool → Scope → ASN1Type → Option ASN1Type
+  type_at down scope ty = once None (type_instance down scope ty (out-ASN1Type ty)) (λ l. Some (roll-ASN1Type l))
+
+  -- with what is found of types that contents hold
+  abbrev pub instance_at : (Scope → ASN1Type → Option ASN1Type) → Instances
+  instance_at contained = record {
+    of_type = type_at;
+    of_contained = contained;
     of_set = λ scope j set. once None (set_instance scope j (out-ElementOrSetOperation set)) (λ l. Some (roll-ElementOrSetOperation l));
     of_tag = λ scope ty. tag_instance scope (out-ASN1Type ty);
     of_element = λ scope j e. once None (element_instance scope j (out-SubtypeElement e)) (λ l. Some (roll-SubtypeElement l));
@@ -237,9 +261,17 @@ module _ (C : Choices) (defs : Definitions) (M : Meaning) (I : Instances) where
 
 -- nothing is found without levels
 unfoldable pub no_instance : Instances
-no_instance = record { of_type = λ down scope ty. None; of_set = λ scope j set. None; of_element = λ scope j e. None; of_tag = λ scope ty. None }
+no_instance = record {
+  of_type = λ down scope ty. None;
+  of_set = λ scope j set. None;
+  of_element = λ scope j e. None;
+  of_tag = λ scope ty. None;
+  of_contained = λ scope ty. None;
+}
 
--- The instances that are found within so many levels, by what `n` steps tell.
+-- The instances that are found within so many levels, by what `n` steps tell. A content has the instance of its type by which every
+-- name may stay, since no reading of names looks at contents.
 unfoldable pub instance : Choices → Definitions → ℕ → ℕ → Instances
 instance C defs n zero = no_instance
-instance C defs n (suc k) = instance_at C defs (meaning defs n) (instance C defs n k)
+instance C defs n (suc k) =
+    instance_at C defs (meaning defs n) (instance C defs n k) (type_at (keeping_all C) defs (meaning defs n) (instance (keeping_all C) defs n k) false)

@@ -1,18 +1,20 @@
 -- One way to write values: literals and the names of items stay, and a name whose tree has no parts becomes a literal or the
 -- name of an item.
-use Rattle.std.specs.Prelude.{ℤ, Bool, true, false, ◌&&◌, ◌||◌, ℕ, is_none, is_some, List, Option, Some, None, if◌then◌else◌}
-use Rattle.std.specs.List.{find}
+use Rattle.std.specs.Prelude.{ℤ, Bool, true, false, ◌&&◌, ◌||◌, ℕ, encode_utf8_all, is_none, is_some, map, List, Option, Some, None, if◌then◌else◌}
+use Rattle.std.specs.List.{find, list_all}
+use Rattle.std.specs.Str.{bytes_eq, chars}
+use Rattle.asn_headers.specs.declared.headers.ObjectIdentifierArc.{ObjectIdentifierArc}
 use Rattle.asn_kinds.specs.declared.types.Enumeral.{Enumeral}
-use Rattle.asn_tree.specs.declared.constraints.ContentConstraint.{ContentConstraint}
 use Rattle.asn_tree.specs.declared.values.ASN1Value.{ASN1Value}
 use Rattle.asn_tree.specs.declared.values.ASN1Value.TheVariants as value
 use Rattle.asn_meaning.specs.Answers.{Yes, once, Answer, No, Denotation, Denoted}
-use Rattle.asn_meaning.specs.Kinds.{Kind, NullKind, BooleanKind, IntegerKind, BitStringKind, OctetStringKind, EnumeratedKind, FieldKind, ReferenceKind, SelectionKind, kind_of}
+use Rattle.asn_meaning.specs.Kinds.{Kind, NullKind, BooleanKind, IntegerKind, RealKind, BitStringKind, OctetStringKind, CharacterStringKind, TimeKind, EnumeratedKind, ObjectIdentifierKind, FieldKind, ReferenceKind, SelectionKind, kind_of}
 use Rattle.asn_meaning.specs.Meaning.{Meaning}
 use Rattle.asn_meaning.specs.Members.{item_named}
 use Rattle.asn_meaning.specs.Scopes.{Scope, Empty, bound_to, Place}
-use Rattle.asn_meaning.specs.ValueTrees.{ValueTree, NullValue, TruthValue, WholeNumber, ItemNumber, Bits, Octets, same_number}
-use Rattle.asn_meaning.specs.Written.{Written, AllWritten, NullWritten, TruthWritten, NumberWritten, RealWritten, TextWritten, BitsWritten, BitNamesWritten, OctetsWritten, NameWritten, as_written}
+use Rattle.asn_meaning.specs.ValueTrees.{Arc, NumberArc, NameArc, ObjectIdentifierArcs, ValueTree, NullValue, TruthValue, WholeNumber, ItemNumber, RealNumber, Bits, Octets, Characters, same_number}
+use Rattle.asn_meaning.specs.Written.{Written, AllWritten, NullWritten, TruthWritten, NumberWritten, RealWritten, TextWritten, BitsWritten, BitNamesWritten, OctetsWritten, ArcsWritten, NameWritten, as_written}
+use Rattle.asn_references.specs.References.{references_in_value}
 use Rattle.asn_instance.specs.Subjects.{Choices}
 use Rattle.asn_instance.specs.Tables.{table_bound}
 
@@ -28,6 +30,15 @@ is_literal (BitsWritten bits) = true
 is_literal (BitNamesWritten names) = true
 is_literal (OctetsWritten octets) = true
 is_literal _ = false
+
+-- an object identifier by its arcs, under its own type: their names stay
+abbrev pub is_own_arcs : Kind → Written → Bool
+is_own_arcs ObjectIdentifierKind (ArcsWritten arcs) = true
+is_own_arcs _ _ = false
+
+-- a value that holds no name which is followed under a head
+abbrev pub is_literal_under : Kind → Written → Bool
+is_literal_under kind w = is_literal w || is_own_arcs kind w
 
 -- a type that is a head whatever is known
 abbrev pub is_own_head : Kind → Bool
@@ -45,13 +56,30 @@ is_item_name scope _ _ = false
 abbrev pub item_numbered : List Enumeral → ℤ → Option (List ℕ)
 item_numbered items i = once None (find (λ item. same_number item.index i) items) (λ item. once None (item_named items item.name) (λ k. if same_number k i then Some item.name else None))
 
+-- the text of these characters, where there is one
+abbrev pub text_of : List ℕ → Option (List ℕ)
+text_of cs = if bytes_eq (chars (encode_utf8_all cs)) cs then Some (encode_utf8_all cs) else None
+
+abbrev pub text_tree : ValueTree → Option ASN1Value
+text_tree (Characters cs) = once None (text_of cs) (λ text. Some (value.String text))
+text_tree _ = None
+
+-- an arc by its number, where it has one, else by its name
+abbrev pub written_arc : Arc → ObjectIdentifierArc
+written_arc (NumberArc n) = record { name = None; number = Some n }
+written_arc (NameArc name) = record { name = Some name; number = None }
+
 -- the literal or item of a tree under a head
 abbrev pub written : Kind → ValueTree → Option ASN1Value
 written NullKind NullValue = Some value.Null
 written BooleanKind (TruthValue b) = Some (value.Boolean b)
 written (IntegerKind numbers) (WholeNumber i) = Some (value.Integer i)
+written RealKind (RealNumber m b e) = Some (value.Real (record { mantissa = m; base = b; exponent = e }))
 written (BitStringKind names) (Bits bits) = Some (value.BitString bits)
 written OctetStringKind (Octets octets) = Some (value.OctetString octets)
+written (CharacterStringKind ty) t = text_tree t
+written TimeKind t = text_tree t
+written ObjectIdentifierKind (ObjectIdentifierArcs arcs) = Some (value.ObjectIdentifier (record { 0 = map written_arc arcs }))
 written (EnumeratedKind items) (ItemNumber i) = once None (item_numbered items i) (λ name. Some (value.ElsewhereDeclaredValue None name))
 written _ _ = None
 
@@ -62,7 +90,7 @@ written_by_tree _ _ kind = None
 abbrev pub value_written : Meaning → Scope → ASN1Value → Place → Option ASN1Value
 value_written M scope v p =
     if is_own_head (kind_of p)
-    then (if is_literal (as_written v) || is_item_name scope (kind_of p) (as_written v) then Some v else written_by_tree (M.is_all scope v p) (M.denotes scope v p) (kind_of p))
+    then (if is_literal_under (kind_of p) (as_written v) || is_item_name scope (kind_of p) (as_written v) then Some v else written_by_tree (M.is_all scope v p) (M.denotes scope v p) (kind_of p))
     else None
 
 -- a single value; one that stands for ALL becomes ALL
@@ -73,34 +101,28 @@ all_or _ v = v
 abbrev pub single_written : Meaning → Scope → ASN1Value → Place → Option ASN1Value
 single_written M scope v p = all_or (M.is_all scope v p) (value_written M scope v p)
 
--- ---- defaults and contents
+-- ---- defaults
 
--- a plain name that no binding has, an item's too
-abbrev pub is_unbound_name : Scope → Written → Bool
-is_unbound_name scope (NameWritten None name) = is_none (bound_to scope name)
-is_unbound_name scope _ = false
+-- no name in it, at any depth, is bound
+abbrev pub is_unbound : Scope → ASN1Value → Bool
+is_unbound scope v = list_all (λ name. is_none (bound_to scope name)) (references_in_value v)
 
 -- a plain name that is bound
 abbrev pub is_dummy : Scope → Written → Bool
 is_dummy scope (NameWritten None name) = is_some (bound_to scope name)
 is_dummy scope _ = false
 
--- Under bindings, by the member's head: a literal and a name that is no dummy stay, and a dummy becomes the literal or item
--- of the tree that it denotes.
+-- Under bindings, by the member's head: what holds no dummy stays, and a dummy becomes the literal or item of the tree that it
+-- denotes.
 abbrev pub default_under : Meaning → Scope → ASN1Value → Place → Option ASN1Value
 default_under M scope v head =
-    if is_literal (as_written v) || is_unbound_name scope (as_written v) then Some v
+    if is_unbound scope v then Some v
     else (if is_dummy scope (as_written v) then written_by_tree No (M.denotes scope v head) (kind_of head) else None)
 
 -- a member's default, read under the member's type; in the empty scope it stays
 abbrev pub default_written : Meaning → Scope → ASN1Value → Place → Option ASN1Value
 default_written M Empty v p = Some v
 default_written M scope v p = once None (M.head p) (default_under M scope v)
-
--- what is contained may name dummies at any depth: it stays in the empty scope alone
-abbrev pub content_written : Scope → ContentConstraint → Option ContentConstraint
-content_written Empty c = Some c
-content_written scope c = None
 
 -- Such names stay as are told, and a table has the set that the bindings give.
 abbrev pub literals : (Option (List ℕ) → List ℕ → Bool) → Choices
@@ -110,6 +132,5 @@ literals keeps =
       value = single_written;
       end = value_written;
       default = default_written;
-      content = λ M scope c. content_written scope c;
       table = λ M scope x. Some (table_bound scope x);
     }

@@ -1,6 +1,5 @@
 -- What stays as it is found where more steps tell more, and where more levels are gone down.
 use Rattle.std.specs.Prelude.{ℕ, suc, Bool}
-use Rattle.asn_tree.specs.declared.constraints.ContentConstraint.{ContentConstraint}
 use Rattle.asn_tree.specs.declared.constraints.ElementOrSetOperation.{ElementOrSetOperation}
 use Rattle.asn_tree.specs.declared.constraints.SubtypeElement.{SubtypeElement}
 use Rattle.asn_tree.specs.declared.types.ASN1Type.{ASN1Type}
@@ -18,7 +17,6 @@ pub record ChosenAgain (C : Choices) (M N : Meaning) : Type 0 where
   pub value : (scope : Scope) (v : ASN1Value) (p : Place) → Within (C.value M scope v p) (C.value N scope v p)
   pub end : (scope : Scope) (v : ASN1Value) (p : Place) → Within (C.end M scope v p) (C.end N scope v p)
   pub default : (scope : Scope) (v : ASN1Value) (p : Place) → Within (C.default M scope v p) (C.default N scope v p)
-  pub content : (scope : Scope) (c : ContentConstraint) → Within (C.content M scope c) (C.content N scope c)
   pub table : (scope : Scope) (x : TableLayer) → Within (C.table M scope x) (C.table N scope x)
 
 -- What is chosen within some steps is chosen, the same, within one more.
@@ -31,3 +29,4 @@ pub record FoundAgain (I J : Instances) : Type 0 where
   pub of_set : (scope : Scope) (s : Subject) (set : ElementOrSetOperation) → Within (I.of_set scope s set) (J.of_set scope s set)
   pub of_element : (scope : Scope) (s : Subject) (e : SubtypeElement) → Within (I.of_element scope s e) (J.of_element scope s e)
   pub of_tag : (scope : Scope) (ty : ASN1Type) → Within (I.of_tag scope ty) (J.of_tag scope ty)
+  pub of_contained : (scope : Scope) (ty : ASN1Type) → Within (I.of_contained scope ty) (J.of_contained scope ty)

@@ -39,7 +39,7 @@ no_template d e = go d.parameterization refl e
 abbrev Made : Definitions → ℕ → ℕ → ToplevelDefinition → Option ASN1Type → Type 0
 Made defs n k d made = IsMade defs (suc n) k d made
 
-module _ (own : UnchangedAreOwnInstances) (steady : LiteralsSteady) (more : MoreLevels) (defs : Definitions) (n k : ℕ) where
+module _ (own : UnchangedAreOwnInstances) (steady : LiteralsSteady) (more : MoreLevels) (defs : Definitions) (n : ℕ) where
   abbrev of_type : ℕ → ToplevelTypeDefinition → Option ASN1Type
   of_type j d = instance_of defs (suc n) j d
 
@@ -48,62 +48,77 @@ module _ (own : UnchangedAreOwnInstances) (steady : LiteralsSteady) (more : More
   again (Some y) b x w e = w ∙ e
 
   -- an instance is the same within more levels
-  further : (d : ToplevelTypeDefinition) (ty : ASN1Type) → of_type k d ≡ Some ty → (i : ℕ) → of_type (i + k) d ≡ Some ty
-  further d ty e zero = subst (λ j. of_type j d ≡ Some ty) (omega arith) e
-  further d ty e (suc i) =
+  further : (k : ℕ) (d : ToplevelTypeDefinition) (ty : ASN1Type) → of_type k d ≡ Some ty → (i : ℕ) → of_type (i + k) d ≡ Some ty
+  further k d ty e zero = subst (λ j. of_type j d ≡ Some ty) (omega arith) e
+  further k d ty e (suc i) =
       let more_there = (more (literals every_name) defs (steady every_name defs) (suc n) (i + k)).0.of_type false Empty d.ty in
-      let there : of_type (suc (i + k)) d ≡ Some ty = again (of_type (i + k) d) (of_type (suc (i + k)) d) ty more_there (further d ty e i) in
+      let there : of_type (suc (i + k)) d ≡ Some ty = again (of_type (i + k) d) (of_type (suc (i + k)) d) ty more_there (further k d ty e i) in
       let next : suc (i + k) ≡ suc i + k = omega arith in
       subst (λ j. of_type j d ≡ Some ty) next there
 
-  stays : (d : ToplevelTypeDefinition) (ty : ASN1Type) → of_type k d ≡ Some ty → Eventually (λ j. of_type j d ≡ Some ty)
-  stays d ty e = record { levels = k; holds = at }
+  -- and by more steps
+  later : (m k : ℕ) (d : ToplevelTypeDefinition) (ty : ASN1Type) → instance_of defs m k d ≡ Some ty → (i : ℕ) → instance_of defs (i + m) k d ≡ Some ty
+  later m k d ty e zero = subst (λ j. instance_of defs j k d ≡ Some ty) (omega arith) e
+  later m k d ty e (suc i) =
+      let more_there = (more (literals every_name) defs (steady every_name defs) (i + m) k).1.of_type false Empty d.ty in
+      let there : instance_of defs (suc (i + m)) k d ≡ Some ty = again (instance_of defs (i + m) k d) (instance_of defs (suc (i + m)) k d) ty more_there (later m k d ty e i) in
+      let next : suc (i + m) ≡ suc i + m = omega arith in
+      subst (λ j. instance_of defs j k d ≡ Some ty) next there
+
+  by_all : (m k : ℕ) → m ≤ suc n → (d : ToplevelTypeDefinition) (ty : ASN1Type) → instance_of defs m k d ≡ Some ty → of_type k d ≡ Some ty
+  by_all m k le d ty e = subst (λ j. instance_of defs j k d ≡ Some ty) (restored m (suc n) le) (later m k d ty e (suc n - m))
+
+  stays : (k : ℕ) (d : ToplevelTypeDefinition) (ty : ASN1Type) → of_type k d ≡ Some ty → Eventually (λ j. of_type j d ≡ Some ty)
+  stays k d ty e = record { levels = k; holds = at }
     where
       at : (j : ℕ) → k ≤ j → of_type j d ≡ Some ty
-      at j le = subst (λ i. of_type i d ≡ Some ty) (restored k j le) (further d ty e (j - k))
+      at j le = subst (λ i. of_type i d ≡ Some ty) (restored k j le) (further k d ty e (j - k))
 
   always : {P : ℕ → Type 0} → ((j : ℕ) → P j) → Eventually P
   always f = record { levels = 0; holds = λ j le. f j }
 
   -- ---- one definition
 
-  type_made : (d : ToplevelTypeDefinition) (p : Option Parameterization) → d.parameterization ≡ p → (t : Option (Option AsnTag)) (o : Option ASN1Type) → of_type k d ≡ o →
-      Eventually (λ j. Made defs n j (TypeDef d) (unless_template p (once None t (λ tag. o))))
-  type_made d (Some p) e t o f = always (λ j. tt)
-  type_made d None e None o f = always (λ j. tt)
-  type_made d None e (Some tag) None f = always (λ j. tt)
-  type_made d None e (Some tag) (Some ty) f = let s = stays d ty f in record { levels = s.levels; holds = λ j le. (e, s.holds j le) }
+  type_made : (m k : ℕ) → m ≤ suc n → (d : ToplevelTypeDefinition) (p : Option Parameterization) → d.parameterization ≡ p → (t : Option (Option AsnTag)) (o : Option ASN1Type) →
+      instance_of defs m k d ≡ o → Eventually (λ j. Made defs n j (TypeDef d) (unless_template p (once None t (λ tag. o))))
+  type_made m k le d (Some p) e t o f = always (λ j. tt)
+  type_made m k le d None e None o f = always (λ j. tt)
+  type_made m k le d None e (Some tag) None f = always (λ j. tt)
+  type_made m k le d None e (Some tag) (Some ty) f = let s = stays k d ty (by_all m k le d ty f) in record { levels = s.levels; holds = λ j at. (e, s.holds j at) }
 
-  free_made : (d : ToplevelDefinition) (is_free : Bool) → Eventually (λ j. Made defs n j d (if is_free then made_of defs (suc n) k d else None))
-  free_made (TypeDef d) true = type_made d d.parameterization refl (tag_of defs (suc n) k d) (of_type k d) refl
-  free_made (TypeDef d) false = always (λ j. tt)
-  free_made (Value d) is_free = always (λ j. tt)
-  free_made (Information d) is_free = always (λ j. tt)
+  of_made : (m k : ℕ) → m ≤ suc n → (d : ToplevelDefinition) → Eventually (λ j. Made defs n j d (made_of defs m k d))
+  of_made m k le (TypeDef d) = type_made m k le d d.parameterization refl (tag_of defs m k d) (instance_of defs m k d) refl
+  of_made m k le (Value d) = always (λ j. tt)
+  of_made m k le (Information d) = always (λ j. tt)
+
+  free_made : (k c : ℕ) → c ≤ suc n → (d : ToplevelDefinition) (is_free : Bool) → Eventually (λ j. Made defs n j d (if is_free then made_of defs (suc n) k d else made_of defs c c d))
+  free_made k c le d true = of_made (suc n) k (omega arith) d
+  free_made k c le d false = of_made c c le d
 
   own_made : (d : ToplevelDefinition) → is_unchanged d ≡ true → Eventually (λ j. Made defs n j d (own_type d))
   own_made (TypeDef d) e = let s = own defs d e in record { levels = s.levels; holds = λ j le. (no_template d e, s.holds j le n) }
   own_made (Value d) e = always (λ j. tt)
   own_made (Information d) e = always (λ j. tt)
 
-  one_made : (d : ToplevelDefinition) (is_free : Bool) → Eventually (λ j. Made defs n j d (made_where defs (suc n) k d is_free))
-  one_made d is_free = go (is_unchanged d) refl
+  one_made : (k c : ℕ) → c ≤ suc n → (d : ToplevelDefinition) (is_free : Bool) → Eventually (λ j. Made defs n j d (made_where defs (suc n) k c d is_free))
+  one_made k c le d is_free = go (is_unchanged d) refl
     where
-      go : (b : Bool) → is_unchanged d ≡ b → Eventually (λ j. Made defs n j d (if b then own_type d else if is_free then made_of defs (suc n) k d else None))
+      go : (b : Bool) → is_unchanged d ≡ b → Eventually (λ j. Made defs n j d (if b then own_type d else if is_free then made_of defs (suc n) k d else made_of defs c c d))
       go true e = own_made d e
-      go false e = free_made d is_free
+      go false e = free_made k c le d is_free
 
   -- ---- all of them
 
-  each_made : (ds : Definitions) (free : List Bool) → length free ≡ length ds → Eventually (λ j. AllZip (Made defs n j) ds (made_each defs (suc n) k ds free))
-  each_made [] free e = always (λ j. tt)
-  each_made (d ∷ ds) [] e = absurd cc
-  each_made (d ∷ ds) (b ∷ free) e =
-      let here = one_made d b in
-      let behind = each_made ds free (omega (arith, e)) in
-      record { levels = here.levels + behind.levels; holds = λ j le. (here.holds j (omega (arith, le)), behind.holds j (omega (arith, le))) }
+  each_made : (k c : ℕ) → c ≤ suc n → (ds : Definitions) (free : List Bool) → length free ≡ length ds → Eventually (λ j. AllZip (Made defs n j) ds (made_each defs (suc n) k c ds free))
+  each_made k c le [] free e = always (λ j. tt)
+  each_made k c le (d ∷ ds) [] e = absurd cc
+  each_made k c le (d ∷ ds) (b ∷ free) e =
+      let here = one_made k c le d b in
+      let behind = each_made k c le ds free (omega (arith, e)) in
+      record { levels = here.levels + behind.levels; holds = λ j at. (here.holds j (omega (arith, at)), behind.holds j (omega (arith, at))) }
 
 pub made_are_instances : UnchangedAreOwnInstances → LiteralsSteady → MoreLevels → MadeAreInstances
-made_are_instances own steady more defs ds free n k e = each_made own steady more defs n k ds free e
+made_are_instances own steady more defs ds free n k c le e = each_made own steady more defs n k c le ds free e
 
 -- ---- lengths
 
@@ -115,12 +130,12 @@ free_long f defs (x ∷ xs) [] all = absurd all
 free_long f defs (x ∷ xs) (b ∷ free) all = ap suc (free_long f defs xs free all.1)
 
 -- as much is made as there are definitions
-pub made_long : (defs : Definitions) (n k : ℕ) (ds : Definitions) (free : List Bool) → length free ≡ length ds → length (made_each defs n k ds free) ≡ length ds
-made_long defs n k [] free e = refl
-made_long defs n k (d ∷ ds) [] e = absurd cc
-made_long defs n k (d ∷ ds) (b ∷ free) e = ap suc (made_long defs n k ds free (omega (arith, e)))
+pub made_long : (defs : Definitions) (n k c : ℕ) (ds : Definitions) (free : List Bool) → length free ≡ length ds → length (made_each defs n k c ds free) ≡ length ds
+made_long defs n k c [] free e = refl
+made_long defs n k c (d ∷ ds) [] e = absurd cc
+made_long defs n k c (d ∷ ds) (b ∷ free) e = ap suc (made_long defs n k c ds free (omega (arith, e)))
 
-pub linked_so : {X : Type 0} (f : X → ToplevelDefinition) (defs : Definitions) (n k : ℕ) (xs : List X) (free closed : List Bool) (made : List (Option ASN1Type)) (tags : List (Option AsnTag)) → FreeAre defs (map (λ x. name_of (f x)) xs) free →
-    made ≡ made_each defs n k (map f xs) free → tags ≡ tag_each defs n k (map f xs) free → AreClosed (map f xs) made closed → AreLinkedTypes defs n k (map f xs) made tags closed
-linked_so f defs n k xs free closed made tags are is tagged told =
+pub linked_so : {X : Type 0} (f : X → ToplevelDefinition) (defs : Definitions) (n k c : ℕ) (xs : List X) (free closed : List Bool) (made : List (Option ASN1Type)) (tags : List (Option AsnTag)) → FreeAre defs (map (λ x. name_of (f x)) xs) free →
+    made ≡ made_each defs n k c (map f xs) free → tags ≡ tag_each defs n k c (map f xs) free → AreClosed (map f xs) made closed → AreLinkedTypes defs n k c (map f xs) made tags closed
+linked_so f defs n k c xs free closed made tags are is tagged told =
     record { free = free; are_free = subst (λ names. FreeAre defs names free) (sym (map-map name_of f xs)) are; made_so = is; tagged_so = tagged; closed_so = told }

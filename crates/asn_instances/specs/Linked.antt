@@ -7,13 +7,13 @@ use Rattle.asn_closed.specs.Closed.{AreClosed}
 use Rattle.asn_index.specs.Definitions.{Definitions, name_of}
 use Rattle.asn_instances.specs.Made.{made_each, tag_each}
 
-pub record AreLinkedTypes (defs : Definitions) (n k : ℕ) (ds : Definitions) (made : List (Option ASN1Type)) (tags : List (Option AsnTag)) (closed : List Bool) : Type 0 where
+pub record AreLinkedTypes (defs : Definitions) (n k c : ℕ) (ds : Definitions) (made : List (Option ASN1Type)) (tags : List (Option AsnTag)) (closed : List Bool) : Type 0 where
   -- which of them lead to no circle
   pub free : List Bool
   pub are_free : FreeAre defs (map name_of ds) free
   -- what was made of each
-  pub made_so : made ≡ made_each defs n k ds free
+  pub made_so : made ≡ made_each defs n k c ds free
   -- the tag that stands before that
-  pub tagged_so : tags ≡ tag_each defs n k ds free
+  pub tagged_so : tags ≡ tag_each defs n k c ds free
   -- whether it is closed by that
   pub closed_so : AreClosed ds made closed

@@ -32,7 +32,7 @@ abbrev pub unless_template : Option Parameterization → Option ASN1Type → Opt
 unless_template None made = made
 unless_template (Some p) made = None
 
--- what linking makes of a definition that leads to no circle
+-- what linking makes of a definition that it does not leave as it is
 abbrev pub made_of : Definitions → ℕ → ℕ → ToplevelDefinition → Option ASN1Type
 made_of defs n k (TypeDef d) = unless_template d.parameterization (tagged_instance defs n k d)
 made_of defs n k (Value d) = None
@@ -44,15 +44,16 @@ own_type (TypeDef d) = Some d.ty
 own_type (Value d) = None
 own_type (Information d) = None
 
--- A definition that linking leaves as it is keeps its type; of any other that leads to a circle nothing is made.
-abbrev pub made_where : Definitions → ℕ → ℕ → ToplevelDefinition → Bool → Option ASN1Type
-made_where defs n k d is_free = if is_unchanged d then own_type d else if is_free then made_of defs n k d else None
+-- A definition that linking leaves as it is keeps its type; of any other its instance is made: within these steps and levels where it
+-- leads to no circle, else within as many of both as `c`.
+abbrev pub made_where : Definitions → ℕ → ℕ → ℕ → ToplevelDefinition → Bool → Option ASN1Type
+made_where defs n k c d is_free = if is_unchanged d then own_type d else if is_free then made_of defs n k d else made_of defs c c d
 
 -- of each in its turn
-abbrev pub made_each : Definitions → ℕ → ℕ → Definitions → List Bool → List (Option ASN1Type)
-made_each defs n k [] free = []
-made_each defs n k (d ∷ ds) [] = []
-made_each defs n k (d ∷ ds) (b ∷ free) = made_where defs n k d b ∷ made_each defs n k ds free
+abbrev pub made_each : Definitions → ℕ → ℕ → ℕ → Definitions → List Bool → List (Option ASN1Type)
+made_each defs n k c [] free = []
+made_each defs n k c (d ∷ ds) [] = []
+made_each defs n k c (d ∷ ds) (b ∷ free) = made_where defs n k c d b ∷ made_each defs n k c ds free
 
 -- ---- tags
 
@@ -67,11 +68,11 @@ own_tag (TypeDef d) = d.tag
 own_tag (Value d) = None
 own_tag (Information d) = None
 
--- One that linking leaves as it is keeps its tag, and so does one that leads to a circle.
-abbrev pub tag_where : Definitions → ℕ → ℕ → ToplevelDefinition → Bool → Option AsnTag
-tag_where defs n k d is_free = if is_unchanged d then own_tag d else if is_free then new_tag defs n k d else own_tag d
+-- One that linking leaves as it is keeps its tag; of any other it is told within the steps and levels that its instance is made within.
+abbrev pub tag_where : Definitions → ℕ → ℕ → ℕ → ToplevelDefinition → Bool → Option AsnTag
+tag_where defs n k c d is_free = if is_unchanged d then own_tag d else if is_free then new_tag defs n k d else new_tag defs c c d
 
-abbrev pub tag_each : Definitions → ℕ → ℕ → Definitions → List Bool → List (Option AsnTag)
-tag_each defs n k [] free = []
-tag_each defs n k (d ∷ ds) [] = []
-tag_each defs n k (d ∷ ds) (b ∷ free) = tag_where defs n k d b ∷ tag_each defs n k ds free
+abbrev pub tag_each : Definitions → ℕ → ℕ → ℕ → Definitions → List Bool → List (Option AsnTag)
+tag_each defs n k c [] free = []
+tag_each defs n k c (d ∷ ds) [] = []
+tag_each defs n k c (d ∷ ds) (b ∷ free) = tag_where defs n k c d b ∷ tag_each defs n k c ds free

@@ -1,5 +1,5 @@
-//! The instances of all definitions: what linking makes of each type definition without parameters that it leaves as it is or that leads
-//! to no circle.
+//! The instances of all definitions: what linking makes of each type definition without parameters, with fewer steps and levels for one
+//! that leads to a circle.
 //!
 //! A room above the instance of one type (asn_link). Which of them can be linked together asn_closed tells.
 #![tactic(auto)]

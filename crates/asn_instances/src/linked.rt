@@ -2,7 +2,7 @@
 
 ghost use Rattle.asn_index.specs.Definitions.{IsStanding};
 ghost use Rattle.asn_instances.specs.Linked.{AreLinkedTypes};
-ghost use Rattle.std.specs.Prelude.{◌+◌, ℕ, IfOk, map};
+ghost use Rattle.std.specs.Prelude.{IfOk, map};
 
 use crate::making::{Limits, make_types};
 use crate::tags::tag_types;
@@ -26,13 +26,13 @@ pub struct LinkedTypes {
 }
 
 /// What linking makes of each of the definitions that stand, in their order, with its tag, and whether it is closed: the type of one that
-/// linking leaves as it is, else the instance of the type of one that is no template and leads to no circle, where an instance lies within
-/// the levels. `standing` is what `Names::standing` gives of `names`. Where linking gives closed definitions these types, each name of one stands for a type that accepts and rejects the same
+/// linking leaves as it is, else the instance of the type of one that is no template, where an instance lies within the steps and levels;
+/// of one that leads to a circle within as many as the limits tell for these. `standing` is what `Names::standing` gives of `names`. Where linking gives closed definitions these types, each name of one stands for a type that accepts and rejects the same
 /// trees as it did (`asn_closed::closed_definitions_close`, `asn_instance::closed_names_mean_the_same`).
 ///
 /// # Errors
 ///
-/// Want of memory, also where the steps or the room of an instance are used up.
+/// Want of memory, also where the room of an instance is used up.
 pub fn link_types<'a>(
     alloc: Global,
     names: &Names<'a>,
@@ -40,7 +40,7 @@ pub fn link_types<'a>(
     standing: &[&'a ToplevelDefinition],
 ) -> Mem<LinkedTypes>
     requires { IsStanding names.now.definitions.now (map (λ d. d.now) standing.now) }
-    ensures { IfOk result (λ linked. (m : ℕ) → AreLinkedTypes names.now.definitions.now (limits.steps + m) limits.levels (map (λ d. d.now) standing.now) linked.made linked.tags linked.closed) }
+    ensures { IfOk result (λ linked. AreLinkedTypes names.now.definitions.now limits.steps limits.levels limits.in_circles (map (λ d. d.now) standing.now) linked.made linked.tags linked.closed) }
 {
     let free = free_of_circles(alloc, names, standing)?;
     let told = free.as_slice();

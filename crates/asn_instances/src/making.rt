@@ -1,7 +1,7 @@
 //! The types that linking makes, definition by definition.
 
 ghost use Rattle.asn_instances.specs.Made.{instance_of, made_each, made_of, made_where, own_type, tag_of, tagged_instance};
-ghost use Rattle.std.specs.Prelude.{◌≡◌, ◌+◌, ℕ, IfOk, length, map};
+ghost use Rattle.std.specs.Prelude.{◌≡◌, IfOk, length, map};
 
 use crate::tags::tag_of;
 use asn_copy_trees::copy_asn1_type;
@@ -16,24 +16,41 @@ use std::alloc::Global;
 /// How far an instance is looked for.
 #[derive(Clone, Copy, Debug, PartialEq, Eq)]
 pub struct Limits {
-    /// The steps within which it is asked what a name leads to. Where they are used up, memory is wanted.
+    /// The steps within which it is asked what a name leads to. Where they are used up, nothing is known.
     pub steps: usize,
     /// The levels of names and parts that an instance may have. One that has more is none.
     pub levels: usize,
-    /// The nodes that it may have. Where it has more, memory is wanted.
+    /// As many steps and levels has a definition that leads to a circle.
+    pub in_circles: usize,
+    /// The nodes that an instance may have. Where it has more, memory is wanted.
     pub room: usize,
+}
+
+impl Limits {
+    /// The limits of a definition that leads to a circle.
+    pub(crate) fn for_circles(self) -> Limits
+        ensures steps { result.steps ≡ self.in_circles }
+        ensures levels { result.levels ≡ self.in_circles }
+    {
+        Limits {
+            steps: self.in_circles,
+            levels: self.in_circles,
+            in_circles: self.in_circles,
+            room: self.room,
+        }
+    }
 }
 
 /// The instance of a definition's type.
 ///
-/// None: there is none within the levels. Err: want of memory, also where the steps or the room are used up.
+/// None: there is none within these steps and levels. Err: want of memory, also where the room is used up.
 fn instance_of<'a>(
     alloc: Global,
     names: &Names<'a>,
     limits: Limits,
     definition: &'a ToplevelTypeDefinition,
 ) -> Mem<Option<ASN1Type>>
-    ensures { IfOk result (λ made. (m : ℕ) → made ≡ instance_of names.now.definitions.now (limits.steps + m) limits.levels definition.now) }
+    ensures { IfOk result (λ made. made ≡ instance_of names.now.definitions.now limits.steps limits.levels definition.now) }
 {
     let mut room = Room::new(limits.room);
     let place = Place {
@@ -61,7 +78,7 @@ fn tagged_instance<'a>(
     limits: Limits,
     definition: &'a ToplevelTypeDefinition,
 ) -> Mem<Option<ASN1Type>>
-    ensures { IfOk result (λ made. (m : ℕ) → made ≡ tagged_instance names.now.definitions.now (limits.steps + m) limits.levels definition.now) }
+    ensures { IfOk result (λ made. made ≡ tagged_instance names.now.definitions.now limits.steps limits.levels definition.now) }
 {
     match tag_of(alloc, names, limits, definition)? {
         None => Ok(None),
@@ -72,16 +89,16 @@ fn tagged_instance<'a>(
     }
 }
 
-/// What linking makes of a definition that leads to no circle: the instance of a type without parameters.
+/// What linking makes of a definition that it does not leave as it is: the instance of a type without parameters.
 ///
-/// Err: want of memory, also where the steps or the room are used up.
+/// Err: want of memory, also where the room is used up.
 fn made_of<'a>(
     alloc: Global,
     names: &Names<'a>,
     limits: Limits,
     definition: &'a ToplevelDefinition,
 ) -> Mem<Option<ASN1Type>>
-    ensures { IfOk result (λ made. (m : ℕ) → made ≡ made_of names.now.definitions.now (limits.steps + m) limits.levels definition.now) }
+    ensures { IfOk result (λ made. made ≡ made_of names.now.definitions.now limits.steps limits.levels definition.now) }
 {
     match definition {
         ToplevelDefinition::TypeDef(definition) => match &definition.parameterization {
@@ -112,9 +129,10 @@ fn own_type(alloc: Global, definition: &ToplevelDefinition) -> Mem<Option<ASN1Ty
     }
 }
 
-/// What linking makes of a definition: its own type where linking leaves it as it is, else its instance where it leads to no circle.
+/// What linking makes of a definition: its own type where linking leaves it as it is, else its instance, within the limits for circles where
+/// it leads to one.
 ///
-/// Err: want of memory, also where the steps or the room are used up.
+/// Err: want of memory, also where the room is used up.
 fn made_where<'a>(
     alloc: Global,
     names: &Names<'a>,
@@ -122,7 +140,7 @@ fn made_where<'a>(
     definition: &'a ToplevelDefinition,
     is_free: bool,
 ) -> Mem<Option<ASN1Type>>
-    ensures { IfOk result (λ made. (m : ℕ) → made ≡ made_where names.now.definitions.now (limits.steps + m) limits.levels definition.now is_free) }
+    ensures { IfOk result (λ made. made ≡ made_where names.now.definitions.now limits.steps limits.levels limits.in_circles definition.now is_free) }
 {
     if is_unchanged(definition) {
         let made = own_type(alloc, definition)?;
@@ -131,17 +149,18 @@ fn made_where<'a>(
         let made = made_of(alloc, names, limits, definition)?;
         Ok(made)
     } else {
-        Ok(None)
+        let made = made_of(alloc, names, limits.for_circles(), definition)?;
+        Ok(made)
     }
 }
 
 /// What linking makes of each of these definitions, in their order: of one that it leaves as it is its own type; of any other of a type
-/// without parameters, where `free` says of it that it leads to no circle, the instance of its type, where one lies within the levels; else
-/// nothing.
+/// without parameters the instance of its type, where one lies within the steps and levels, or, where `free` says of it that it leads to a
+/// circle, within as many as the limits tell for these; else nothing.
 ///
 /// # Errors
 ///
-/// Want of memory, also where the steps or the room of an instance are used up.
+/// Want of memory, also where the room of an instance is used up.
 pub fn make_types<'a>(
     alloc: Global,
     names: &Names<'a>,
@@ -150,7 +169,7 @@ pub fn make_types<'a>(
     free: &[bool],
 ) -> Mem<List<Option<ASN1Type>>>
     requires { length free.now ≡ length definitions.now }
-    ensures { IfOk result (λ made. (m : ℕ) → made ≡ made_each names.now.definitions.now (limits.steps + m) limits.levels (map (λ d. d.now) definitions.now) free.now) }
+    ensures { IfOk result (λ made. made ≡ made_each names.now.definitions.now limits.steps limits.levels limits.in_circles (map (λ d. d.now) definitions.now) free.now) }
 {
     let mut made = List::new(alloc);
     for (i, definition) in definitions.iter().enumerate() {

@@ -2,7 +2,7 @@
 
 ghost use Rattle.asn_instances.specs.Made.{new_tag, own_tag, tag_each, tag_of, tag_where};
 ghost use Rattle.asn_meaning.specs.Answers.{once};
-ghost use Rattle.std.specs.Prelude.{◌≡◌, ◌+◌, ℕ, IfOk, length, map};
+ghost use Rattle.std.specs.Prelude.{◌≡◌, IfOk, length, map};
 
 use crate::making::Limits;
 use asn_heads::{Place, Scope, TypeForm};
@@ -15,14 +15,14 @@ use std::alloc::Global;
 
 /// The tag of a definition's type: the written one, else the one that the type brings to its place.
 ///
-/// None: the levels do not reach, or a name leads nowhere. Err: want of memory, also where the steps are used up.
+/// None: the steps or levels do not reach, or a name leads nowhere. Err: want of memory.
 pub(crate) fn tag_of<'a>(
     alloc: Global,
     names: &Names<'a>,
     limits: Limits,
     definition: &'a ToplevelTypeDefinition,
 ) -> Mem<Option<Option<AsnTag>>>
-    ensures { IfOk result (λ tag. (m : ℕ) → tag ≡ tag_of names.now.definitions.now (limits.steps + m) limits.levels definition.now) }
+    ensures { IfOk result (λ tag. tag ≡ tag_of names.now.definitions.now limits.steps limits.levels definition.now) }
 {
     let place = Place {
         scope: Scope::Empty,
@@ -39,16 +39,16 @@ pub(crate) fn tag_of<'a>(
     Ok(tag)
 }
 
-/// The tag of a definition of a type that leads to no circle; where none is told its own.
+/// The tag of a definition of a type; where none is told its own.
 ///
-/// Err: want of memory, also where the steps are used up.
+/// Err: want of memory.
 fn tag_or_own<'a>(
     alloc: Global,
     names: &Names<'a>,
     limits: Limits,
     definition: &'a ToplevelTypeDefinition,
 ) -> Mem<Option<AsnTag>>
-    ensures { IfOk result (λ tag. (m : ℕ) → tag ≡ once definition.now.tag (tag_of names.now.definitions.now (limits.steps + m) limits.levels definition.now) (λ tag. tag)) }
+    ensures { IfOk result (λ tag. tag ≡ once definition.now.tag (tag_of names.now.definitions.now limits.steps limits.levels definition.now) (λ tag. tag)) }
 {
     match tag_of(alloc, names, limits, definition)? {
         None => Ok(definition.tag),
@@ -56,16 +56,16 @@ fn tag_or_own<'a>(
     }
 }
 
-/// The tag of a definition that leads to no circle.
+/// The tag of a definition that linking does not leave as it is.
 ///
-/// Err: want of memory, also where the steps are used up.
+/// Err: want of memory.
 fn new_tag<'a>(
     alloc: Global,
     names: &Names<'a>,
     limits: Limits,
     definition: &'a ToplevelDefinition,
 ) -> Mem<Option<AsnTag>>
-    ensures { IfOk result (λ tag. (m : ℕ) → tag ≡ new_tag names.now.definitions.now (limits.steps + m) limits.levels definition.now) }
+    ensures { IfOk result (λ tag. tag ≡ new_tag names.now.definitions.now limits.steps limits.levels definition.now) }
 {
     match definition {
         ToplevelDefinition::TypeDef(definition) => {
@@ -88,9 +88,10 @@ fn own_tag(definition: &ToplevelDefinition) -> Option<AsnTag>
     }
 }
 
-/// The tag of a definition: its own where linking leaves it as it is or it leads to a circle.
+/// The tag of a definition: its own where linking leaves it as it is; else the one that is told, within the limits for circles where it leads
+/// to one.
 ///
-/// Err: want of memory, also where the steps are used up.
+/// Err: want of memory.
 fn tag_where<'a>(
     alloc: Global,
     names: &Names<'a>,
@@ -98,7 +99,7 @@ fn tag_where<'a>(
     definition: &'a ToplevelDefinition,
     is_free: bool,
 ) -> Mem<Option<AsnTag>>
-    ensures { IfOk result (λ tag. (m : ℕ) → tag ≡ tag_where names.now.definitions.now (limits.steps + m) limits.levels definition.now is_free) }
+    ensures { IfOk result (λ tag. tag ≡ tag_where names.now.definitions.now limits.steps limits.levels limits.in_circles definition.now is_free) }
 {
     if is_unchanged(definition) {
         Ok(own_tag(definition))
@@ -106,14 +107,15 @@ fn tag_where<'a>(
         let tag = new_tag(alloc, names, limits, definition)?;
         Ok(tag)
     } else {
-        Ok(own_tag(definition))
+        let tag = new_tag(alloc, names, limits.for_circles(), definition)?;
+        Ok(tag)
     }
 }
 
-/// The tag of each of these definitions, in their order, as linking gives it: the written one, else, where `free` says that a definition
-/// leads to no circle, the one that its type brings to its place.
+/// The tag of each of these definitions, in their order, as linking gives it: the written one, else the one that its type brings to its
+/// place, as far as it is told within the limits, which are those for circles where `free` says that a definition leads to one.
 ///
-/// Err: want of memory, also where the steps are used up.
+/// Err: want of memory.
 pub(crate) fn tag_types<'a>(
     alloc: Global,
     names: &Names<'a>,
@@ -122,7 +124,7 @@ pub(crate) fn tag_types<'a>(
     free: &[bool],
 ) -> Mem<List<Option<AsnTag>>>
     requires { length free.now ≡ length definitions.now }
-    ensures { IfOk result (λ tags. (m : ℕ) → tags ≡ tag_each names.now.definitions.now (limits.steps + m) limits.levels (map (λ d. d.now) definitions.now) free.now) }
+    ensures { IfOk result (λ tags. tags ≡ tag_each names.now.definitions.now limits.steps limits.levels limits.in_circles (map (λ d. d.now) definitions.now) free.now) }
 {
     let mut tags = List::new(alloc);
     for (i, definition) in definitions.iter().enumerate() {

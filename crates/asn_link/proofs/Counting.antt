@@ -1,7 +1,7 @@
 -- Members by their numbers, and the marker that divides them.
 use Rattle.std.proofs.Common.{◌≡◌, ◌∙◌, ◌+◌, ◌<◌, ◌≤◌, ◌++◌, ◌∷◌, [], Bool, List, None, Option, Some, ap, arith, drop, false, get_or, length, refl, suc, sym, true, ℕ}
 use Rattle.std.specs.Prelude.{if◌then◌else◌}
-use Rattle.std.proofs.lemmas.List.{drop_all, drop_more}
+use Rattle.std.proofs.lemmas.List.{drop_all, drop_more, length-append}
 use Rattle.asn_tree.specs.declared.types.SequenceOrSetMember.{SequenceOrSetMember, out-SequenceOrSetMember, roll-SequenceOrSetMember, roll-out-SequenceOrSetMember}
 use Rattle.asn_instance.specs.Instance.{member_instance, of_members}
 use Rattle.asn_link.specs.inner.Parts.{member_at}
@@ -16,6 +16,9 @@ use Rattle.asn_meaning.specs.ValueTrees.{same_truth}
 use Rattle.asn_replacements.specs.Choosing.{chosen, instances}
 use Rattle.asn_shapes.specs.declared.members.Member.{Member as LentMember}
 use Rattle.asn_shapes.specs.Members.{shown_member, shown_members}
+
+pub longer : (made : List SequenceOrSetMember) (one : SequenceOrSetMember) → length (made ++ one ∷ []) ≡ length made + 1
+longer made one = length-append made (one ∷ [])
 
 module _ (defs : Definitions) (n k : ℕ) (marker : Option ℕ) where
   abbrev pub from : ℕ → List LentMember → Option (List SequenceOrSetMember)

@@ -1,5 +1,5 @@
 -- Layers of trees that are made, and what stands for types that no tree holds.
-use Rattle.std.proofs.Common.{◌≡◌, ◌∙◌, Bool, List, Option, Some, ap, false, refl, sym, true, ℕ}
+use Rattle.std.proofs.Common.{◌≡◌, ◌∙◌, ◌⊎◌, Bool, List, Option, Some, ap, false, inl, inr, refl, sym, true, ℕ}
 use Rattle.asn_kinds.specs.declared.types.DistinguishedValue.{DistinguishedValue}
 use Rattle.asn_tree.specs.declared.constraints.Constraint.{Constraint}
 use Rattle.asn_tree.specs.declared.constraints.SubtypeElement.{SubtypeElement, out-SubtypeElement}
@@ -56,6 +56,13 @@ is_leaf (ASN1Type-F.Set x) = false
 is_leaf (ASN1Type-F.SequenceOf x) = false
 is_leaf (ASN1Type-F.SetOf x) = false
 is_leaf _ = true
+
+pub leaf_as : (t u : ASN1Type) (l : TypeLayer) → t ≡ u → out-ASN1Type u ≡ l → is_leaf l ≡ true → is_leaf (out-ASN1Type t) ≡ true
+leaf_as t u l e f g = ap (λ x. is_leaf (out-ASN1Type x)) e ∙ ap is_leaf f ∙ g
+
+pub by_cases : {A B C : Type 0} → (A → C) → (B → C) → A ⊎ B → C
+by_cases f g (inl a) = f a
+by_cases f g (inr b) = g b
 
 pub leaf_stands : (defs : Definitions) (n k : ℕ) (down : Bool) (scope : Scope) (uy : ASN1Type) (l : TypeLayer) → is_leaf l ≡ true →
     type_instance chosen defs (meaning defs n) (instances defs n k) down scope uy l ≡ constrained chosen defs (meaning defs n) (instances defs n k) scope uy l

@@ -2,9 +2,8 @@
 
 ghost use Rattle.asn_heads.specs.Kinds.{shown_reference};
 ghost use Rattle.asn_heads.specs.Places.{shown_place};
-ghost use Rattle.asn_heads.specs.Scopes.{shown};
-ghost use Rattle.asn_instance.specs.Literals.{content_written};
-ghost use Rattle.asn_link.specs.inner.Made.{content_made, reference_made, reference_with};
+ghost use Rattle.asn_instance.specs.Subjects.{rules_read};
+ghost use Rattle.asn_link.specs.inner.Made.{reference_made, reference_with};
 ghost use Rattle.asn_meaning.specs.Definitions.{plain_identifier};
 ghost use Rattle.asn_meaning.specs.Everything.{plain_text};
 ghost use Rattle.asn_meaning.specs.Ranges.{integer_named};
@@ -14,16 +13,15 @@ ghost use Rattle.std.specs.Option.{option_copied, option_map};
 ghost use Rattle.std.specs.Prelude.{◌≡◌, IfOk, None};
 
 use asn_copy_trees::{
-    copy_content_constraint, copy_distinguished_value, copy_optional_text, copy_pattern_constraint,
-    copy_property_settings, copy_text, copy_user_defined_constraint,
+    copy_distinguished_value, copy_optional_text, copy_pattern_constraint, copy_property_settings,
+    copy_text, copy_user_defined_constraint,
 };
 use asn_heads::{Place, Reference, Scope, TypeForm, integer_of};
 use asn_memory::{List, Mem};
-use asn_replacements::is_outside;
 use asn_tree::{
-    ASN1Type, CharacterString, CharacterStringType, Constraint, ContentConstraint,
-    DeclarationElsewhere, DistinguishedValue, Integer, ObjectIdentifier, PatternConstraint,
-    PropertySettings, SubtypeElement, UserDefinedConstraint,
+    ASN1Type, CharacterString, CharacterStringType, Constraint, DeclarationElsewhere,
+    DistinguishedValue, Integer, ObjectIdentifier, PatternConstraint, PropertySettings,
+    SubtypeElement, UserDefinedConstraint,
 };
 use std::alloc::Global;
 
@@ -32,6 +30,16 @@ pub fn whole_number<'a>() -> Place<'a>
     ensures { shown_place result ≡ integer_named None }
 {
     integer_of(TypeForm::Null)
+}
+
+/// OBJECT IDENTIFIER in the empty scope: the encoding rules of a content are read under it (X.682 11.5).
+pub fn rules_read<'a>() -> Place<'a>
+    ensures { shown_place result ≡ rules_read }
+{
+    Place {
+        scope: Scope::Empty,
+        ty: TypeForm::ObjectIdentifier,
+    }
 }
 
 /// UTF8String without constraints.
@@ -147,25 +155,6 @@ fn name_with(
             }))
         }
     }
-}
-
-/// A content constraint, as a list. It stays in a scope without dummies alone.
-///
-/// None: the scope has dummies. Err: want of memory.
-#[tactic(auto, using(crate::proofs::Contents::content_outside, crate::proofs::Contents::content_inside))]
-pub fn content_constraint(
-    alloc: Global,
-    scope: &Scope<'_>,
-    content: &ContentConstraint,
-) -> Mem<Option<List<Constraint>>>
-    ensures { IfOk result (λ made. made ≡ content_made (content_written (shown scope.now) content.now)) }
-{
-    if !is_outside(scope) {
-        return Ok(None);
-    }
-    let copy = copy_content_constraint(alloc, content)?;
-    let made = List::of(alloc, Constraint::ContentConstraint(copy))?;
-    Ok(Some(made))
 }
 
 /// A copy of a pattern, as an element.

@@ -5,8 +5,8 @@
 //! here the trees are made, and what stays is copied.
 //!
 //! What meaning knows within a number of steps, a call computes by `steps`; how deep an instance goes, `levels` tell, and how many
-//! nodes it may have, its room. Where steps or room are used up, a call fails for want of memory, so that each answer is the one of all
-//! further steps; None says for good that there is no instance within the levels. A call fails for nothing else.
+//! nodes it may have, its room. Each answer is the one of these steps and levels: None says that there is no instance within them. Where
+//! the room is used up, a call fails for want of memory, and for nothing else.
 #![tactic(auto)]
 
 mod constrained;

@@ -14,7 +14,7 @@ ghost use Rattle.asn_tree.specs.declared.types.ChoiceOption.{out-ChoiceOption};
 ghost use Rattle.asn_tree.specs.declared.types.SequenceOrSet.{out-SequenceOrSet};
 ghost use Rattle.asn_tree.specs.declared.types.SequenceOrSetMember.{out-SequenceOrSetMember};
 ghost use Rattle.std.specs.Option.{option_map};
-ghost use Rattle.std.specs.Prelude.{◌≡◌, IfOk, ℕ, ◌+◌, None};
+ghost use Rattle.std.specs.Prelude.{◌≡◌, IfOk, None};
 
 use crate::writing::default_of;
 use asn_copy_trees::copy_text;
@@ -76,7 +76,7 @@ pub fn places_left(alloc: Global, layer: &SequenceOrSet) -> Mem<List<(usize, boo
 
 /// The type of the part of a head that a listed component names.
 ///
-/// None: there is none. Err: want of memory, also where the steps are used up.
+/// None: there is none, or it is not known within these steps. Err: want of memory.
 pub fn part_of<'a>(
     alloc: Global,
     names: &Names<'a>,
@@ -85,7 +85,7 @@ pub fn part_of<'a>(
     head: &Place<'a>,
     listed: &ConstrainedComponent,
 ) -> Mem<Option<Place<'a>>>
-    ensures { IfOk result (λ found. (m : ℕ) → option_map shown_place found ≡ part_named chosen names.now.definitions.now (meaning names.now.definitions.now (steps + m)) (instances names.now.definitions.now (steps + m) levels) (shown_place head.now).scope listed.now.identifier (kind_of (shown_place head.now))) }
+    ensures { IfOk result (λ found. option_map shown_place found ≡ part_named chosen names.now.definitions.now (meaning names.now.definitions.now steps) (instances names.now.definitions.now steps levels) (shown_place head.now).scope listed.now.identifier (kind_of (shown_place head.now))) }
 {
     let found = part_named(alloc, names, steps, head, listed.identifier.as_str())?;
     Ok(found)
@@ -93,7 +93,7 @@ pub fn part_of<'a>(
 
 /// A member of this type and these constraints, with its default and its tag.
 ///
-/// None: there is no such default or tag. Err: want of memory, also where the steps are used up.
+/// None: there is no such default or tag, or it is not known within these steps. Err: want of memory.
 pub fn finished_member<'a>(
     alloc: Global,
     names: &Names<'a>,
@@ -104,7 +104,7 @@ pub fn finished_member<'a>(
     ty: ASN1Type,
     constraints: Option<List<Constraint>>,
 ) -> Mem<Option<SequenceOrSetMember>>
-    ensures { IfOk result (λ made. (m : ℕ) → option_map out-SequenceOrSetMember made ≡ once None constraints (member_finished names.now.definitions.now (steps + m) levels (shown_place place.now) (out-SequenceOrSetMember member.now) ty)) }
+    ensures { IfOk result (λ made. option_map out-SequenceOrSetMember made ≡ once None constraints (member_finished names.now.definitions.now steps levels (shown_place place.now) (out-SequenceOrSetMember member.now) ty)) }
 {
     let Some(constraints) = constraints else {
         return Ok(None);
@@ -129,7 +129,7 @@ pub fn finished_member<'a>(
 
 /// An option of this type and these constraints, with its tag.
 ///
-/// None: there is no such tag. Err: want of memory, also where the steps are used up.
+/// None: there is no such tag, or it is not known within these steps. Err: want of memory.
 pub fn finished_option<'a>(
     alloc: Global,
     names: &Names<'a>,
@@ -140,7 +140,7 @@ pub fn finished_option<'a>(
     ty: ASN1Type,
     constraints: Option<List<Constraint>>,
 ) -> Mem<Option<ChoiceOption>>
-    ensures { IfOk result (λ made. (m : ℕ) → option_map out-ChoiceOption made ≡ once None constraints (option_finished names.now.definitions.now (steps + m) levels (shown_place place.now) (out-ChoiceOption option.now) ty)) }
+    ensures { IfOk result (λ made. option_map out-ChoiceOption made ≡ once None constraints (option_finished names.now.definitions.now steps levels (shown_place place.now) (out-ChoiceOption option.now) ty)) }
 {
     let Some(constraints) = constraints else {
         return Ok(None);

@@ -1,7 +1,8 @@
 //! Trees put together from parts, where all of these are made.
 
-ghost use Rattle.asn_link.specs.inner.Made.{alphabet_made, choice_made, component_made, contained_made, element_set_made, inner_made, joined_made, list_made, listed_made, operation_set_made, sequence_made, sequence_of_made, set_made, set_of_made, size_made, struct_made, subtype_made, type_constraint_made};
+ghost use Rattle.asn_link.specs.inner.Made.{alphabet_made, choice_made, component_made, contained_made, containing_encoded_made, containing_made, content_made, element_set_made, encoded_made, inner_made, joined_made, list_made, listed_made, operation_set_made, sequence_made, sequence_of_made, set_made, set_of_made, size_made, struct_made, subtype_made, type_constraint_made};
 ghost use Rattle.asn_link.specs.inner.Parts.{places_behind};
+ghost use Rattle.asn_tree.specs.declared.constraints.ContentConstraint.{out-ContentConstraint};
 ghost use Rattle.asn_tree.specs.declared.constraints.ElementOrSetOperation.{out-ElementOrSetOperation};
 ghost use Rattle.asn_tree.specs.declared.constraints.SetOperation.{out-SetOperation};
 ghost use Rattle.asn_tree.specs.declared.constraints.SubtypeElement.{out-SubtypeElement};
@@ -15,9 +16,9 @@ use crate::parts::places_left;
 use asn_copy_trees::copy_text;
 use asn_memory::{Box, List, Mem};
 use asn_tree::{
-    ASN1Type, Choice, ChoiceOption, ConstrainedComponent, Constraint, ElementOrSetOperation,
-    ElementSet, InnerTypeConstraint, SequenceOrSet, SequenceOrSetMember, SequenceOrSetOf,
-    SetOperation, SubtypeElement,
+    ASN1Type, ASN1Value, Choice, ChoiceOption, ConstrainedComponent, Constraint, ContentConstraint,
+    ElementOrSetOperation, ElementSet, InnerTypeConstraint, SequenceOrSet, SequenceOrSetMember,
+    SequenceOrSetOf, SetOperation, SubtypeElement,
 };
 use std::alloc::Global;
 
@@ -150,6 +151,60 @@ pub fn subtype_constraint(
             let made = List::of(alloc, constraint)?;
             Ok(Some(made))
         }
+    }
+}
+
+/// A content constraint, as a list.
+///
+/// Err: want of memory.
+pub fn content_constraint(
+    alloc: Global,
+    content: Option<ContentConstraint>,
+) -> Mem<Option<List<Constraint>>>
+    ensures { IfOk result (λ made. made ≡ content_made content) }
+{
+    match content {
+        None => Ok(None),
+        Some(content) => {
+            let made = List::of(alloc, Constraint::ContentConstraint(content))?;
+            Ok(Some(made))
+        }
+    }
+}
+
+/// A content that is told by its type.
+pub fn containing(made: Option<ASN1Type>) -> Option<ContentConstraint>
+    ensures { option_map out-ContentConstraint result ≡ containing_made made }
+{
+    match made {
+        None => None,
+        Some(ty) => Some(ContentConstraint::Containing(ty)),
+    }
+}
+
+/// A content that is told by its encoding rules.
+pub fn encoded(made: Option<ASN1Value>) -> Option<ContentConstraint>
+    ensures { option_map out-ContentConstraint result ≡ encoded_made made }
+{
+    match made {
+        None => None,
+        Some(rules) => Some(ContentConstraint::EncodedBy(rules)),
+    }
+}
+
+/// A content that is told by its type and its encoding rules.
+pub fn containing_encoded(
+    containing: ASN1Type,
+    made: Option<ASN1Value>,
+) -> Option<ContentConstraint>
+    ensures { option_map out-ContentConstraint result ≡ containing_encoded_made containing made }
+{
+    match made {
+        None => None,
+        Some(encoded_by) => Some(ContentConstraint::ContainingEncodedBy {
+            containing,
+            encoded_by,
+        }),
     }
 }
 

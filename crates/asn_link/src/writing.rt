@@ -2,8 +2,8 @@
 
 ghost use Rattle.asn_heads.specs.Places.{shown_place};
 ghost use Rattle.asn_heads.specs.Scopes.{shown};
-ghost use Rattle.asn_instance.specs.Literals.{single_written};
-ghost use Rattle.asn_instance.specs.Subjects.{values_read};
+ghost use Rattle.asn_instance.specs.Literals.{default_written, single_written};
+ghost use Rattle.asn_instance.specs.Subjects.{rules_read, values_read};
 ghost use Rattle.asn_link.specs.inner.Made.{present, range_made, single_made};
 ghost use Rattle.asn_link.specs.inner.Parts.{default_made, end_made};
 ghost use Rattle.asn_meaning.specs.Judge.{meaning};
@@ -11,14 +11,15 @@ ghost use Rattle.asn_replacements.specs.Subjects.{shown_subject};
 ghost use Rattle.asn_replacements.specs.Values.{shown_placed};
 ghost use Rattle.asn_tree.specs.declared.constraints.SubtypeElement.{out-SubtypeElement};
 ghost use Rattle.std.specs.Option.{option_map};
-ghost use Rattle.std.specs.Prelude.{◌≡◌, IfOk, ℕ, ◌+◌};
+ghost use Rattle.std.specs.Prelude.{◌≡◌, IfOk};
 
+use crate::leaves::rules_read;
 use asn_copy_trees::{copy_asn1_value, copy_text};
 use asn_heads::{Place, Scope};
 use asn_index::Names;
 use asn_memory::Mem;
 use asn_replacements::{PlacedValue, Subject, default_value, end_value, single_value};
-use asn_tree::{ASN1Value, SubtypeElement};
+use asn_tree::{ASN1Value, ObjectIdentifierValue, SubtypeElement};
 use std::alloc::Global;
 
 /// The tree of a value that takes the place of another.
@@ -36,8 +37,11 @@ fn placed_tree(alloc: Global, placed: PlacedValue<'_>) -> Mem<ASN1Value>
         PlacedValue::Null => Ok(ASN1Value::Null),
         PlacedValue::Truth(truth) => Ok(ASN1Value::Boolean(truth)),
         PlacedValue::Number(number) => Ok(ASN1Value::Integer(number)),
+        PlacedValue::Real(real) => Ok(ASN1Value::Real(real)),
         PlacedValue::Bits(bits) => Ok(ASN1Value::BitString(bits)),
         PlacedValue::Octets(octets) => Ok(ASN1Value::OctetString(octets)),
+        PlacedValue::Text(text) => Ok(ASN1Value::String(text)),
+        PlacedValue::Arcs(arcs) => Ok(ASN1Value::ObjectIdentifier(ObjectIdentifierValue(arcs))),
         PlacedValue::Item(name) => {
             let identifier = copy_text(alloc, name)?;
             Ok(ASN1Value::ElsewhereDeclaredValue {
@@ -75,7 +79,7 @@ fn present(made: Option<ASN1Value>) -> Option<Option<ASN1Value>>
 
 /// A single value, as an element.
 ///
-/// None: there is neither a literal nor an item for it. Err: want of memory, also where the steps are used up.
+/// None: there is neither a literal nor an item for it, or it is not known within these steps. Err: want of memory.
 pub fn single_element<'a>(
     alloc: Global,
     names: &Names<'a>,
@@ -85,7 +89,7 @@ pub fn single_element<'a>(
     value: &'a ASN1Value,
     extensible: bool,
 ) -> Mem<Option<SubtypeElement>>
-    ensures { IfOk result (λ made. (m : ℕ) → option_map out-SubtypeElement made ≡ single_made extensible (single_written (meaning names.now.definitions.now (steps + m)) (shown scope.now) value.now (values_read (shown_subject subject.entry)))) }
+    ensures { IfOk result (λ made. option_map out-SubtypeElement made ≡ single_made extensible (single_written (meaning names.now.definitions.now steps) (shown scope.now) value.now (values_read (shown_subject subject.entry)))) }
 {
     let placed = single_value(alloc, names, steps, scope, value, subject)?;
     let made = tree_of(alloc, placed)?;
@@ -104,7 +108,7 @@ fn single(made: Option<ASN1Value>, extensible: bool) -> Option<SubtypeElement>
 
 /// An end of a range, where it is written.
 ///
-/// None: there is no literal for it. Err: want of memory, also where the steps are used up.
+/// None: there is no literal for it, or it is not known within these steps. Err: want of memory.
 fn end_of<'a>(
     alloc: Global,
     names: &Names<'a>,
@@ -113,7 +117,7 @@ fn end_of<'a>(
     subject: Subject<'_, 'a>,
     end: &'a Option<ASN1Value>,
 ) -> Mem<Option<Option<ASN1Value>>>
-    ensures { IfOk result (λ made. (m : ℕ) → made ≡ end_made (meaning names.now.definitions.now (steps + m)) (shown scope.now) (shown_subject subject.entry) end.now) }
+    ensures { IfOk result (λ made. made ≡ end_made (meaning names.now.definitions.now steps) (shown scope.now) (shown_subject subject.entry) end.now) }
 {
     match end {
         None => Ok(Some(None)),
@@ -127,7 +131,7 @@ fn end_of<'a>(
 
 /// A range, as an element.
 ///
-/// None: there is no literal for an end. Err: want of memory, also where the steps are used up.
+/// None: there is no literal for an end, or it is not known within these steps. Err: want of memory.
 pub fn range_element<'a>(
     alloc: Global,
     names: &Names<'a>,
@@ -140,7 +144,7 @@ pub fn range_element<'a>(
     max_open: bool,
     extensible: bool,
 ) -> Mem<Option<SubtypeElement>>
-    ensures { IfOk result (λ made. (m : ℕ) → option_map out-SubtypeElement made ≡ range_made min_open max_open extensible (end_made (meaning names.now.definitions.now (steps + m)) (shown scope.now) (shown_subject subject.entry) min.now) (end_made (meaning names.now.definitions.now (steps + m)) (shown scope.now) (shown_subject subject.entry) max.now)) }
+    ensures { IfOk result (λ made. option_map out-SubtypeElement made ≡ range_made min_open max_open extensible (end_made (meaning names.now.definitions.now steps) (shown scope.now) (shown_subject subject.entry) min.now) (end_made (meaning names.now.definitions.now steps) (shown scope.now) (shown_subject subject.entry) max.now)) }
 {
     let Some(min) = end_of(alloc, names, steps, scope, subject, min)? else {
         return Ok(None);
@@ -159,7 +163,7 @@ pub fn range_element<'a>(
 
 /// A member's default, where it has one; it is read under the member's type.
 ///
-/// None: there is neither a literal nor an item for it. Err: want of memory, also where the steps are used up.
+/// None: there is neither a literal nor an item for it, or it is not known within these steps. Err: want of memory.
 pub fn default_of<'a>(
     alloc: Global,
     names: &Names<'a>,
@@ -167,7 +171,7 @@ pub fn default_of<'a>(
     place: &Place<'a>,
     default: &'a Option<ASN1Value>,
 ) -> Mem<Option<Option<ASN1Value>>>
-    ensures { IfOk result (λ made. (m : ℕ) → made ≡ default_made (meaning names.now.definitions.now (steps + m)) (shown_place place.now) default.now) }
+    ensures { IfOk result (λ made. made ≡ default_made (meaning names.now.definitions.now steps) (shown_place place.now) default.now) }
 {
     match default {
         None => Ok(Some(None)),
@@ -178,4 +182,22 @@ pub fn default_of<'a>(
             Ok(present(made))
         }
     }
+}
+
+/// The encoding rules of a content, as they are in the scope: an object identifier is read there (X.682 11.5).
+///
+/// None: there is none for them, or it is not known within these steps. Err: want of memory.
+pub fn rules_written<'a>(
+    alloc: Global,
+    names: &Names<'a>,
+    steps: usize,
+    scope: &Scope<'a>,
+    rules: &'a ASN1Value,
+) -> Mem<Option<ASN1Value>>
+    ensures { IfOk result (λ made. made ≡ default_written (meaning names.now.definitions.now steps) (shown scope.now) rules.now rules_read) }
+{
+    let place = rules_read();
+    let placed = default_value(alloc, names, steps, scope, rules, &place)?;
+    let made = tree_of(alloc, placed)?;
+    Ok(made)
 }

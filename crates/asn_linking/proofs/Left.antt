@@ -1,5 +1,5 @@
 -- A definition that linking leaves as it is, and with it each that it reaches, is clean.
-use Rattle.std.proofs.Common.{◌≡◌, ℕ, zero, suc, ◌+◌, ◌<◌, ◌⊎◌, inl, inr, Bool, true, false, Option, Some, None}
+use Rattle.std.proofs.Common.{◌≡◌, ℕ, zero, suc, ◌<◌, ◌⊎◌, inl, inr, Bool, true, false, Option, Some, None}
 use Rattle.std.proofs.Common.{List, [], ◌∷◌, length, map, get_or, refl, sym, ap, ◌∙◌, subst, arith}
 use Rattle.std.specs.Prelude.{Contains, if◌then◌else◌, ◌||◌, codes}
 use Rattle.std.specs.Str.{bytes_eq}
@@ -33,7 +33,7 @@ use Rattle.asn_names.specs.Given.{given_definitions, IsGiven}
 use Rattle.asn_names.specs.Occurrences.{Reaches, goes_on, occurs}
 use Rattle.asn_names.proofs.Given.{last_given}
 use Rattle.asn_linking.specs.Laws.{LeftAreClean}
-use Rattle.asn_linking.specs.Linked.{Linking, is_clean, most_levels}
+use Rattle.asn_linking.specs.Linked.{Linking, is_clean, most_in_circles, most_levels, most_steps}
 use Rattle.asn_linking.proofs.Long.{free_long, made_long}
 use Rattle.asn_linking.proofs.Meaning.{open_at}
 
@@ -55,12 +55,12 @@ closed_at (n ∷ names) (c ∷ closed) name (suc x) l h e others =
     ∙ closed_at names closed name x (omega (arith, l)) (omega (arith, h)) e (λ i k f. others (suc i) (omega (arith, k)) f)
 
 -- what linking makes of the definition at a place
-made_at : (defs : Definitions) (n k : ℕ) (ds : Definitions) (free : List Bool) (x : ℕ) (d : ToplevelDefinition) → length free ≡ length ds → x < length ds →
-    get_or (made_each defs n k ds free) x None ≡ made_where defs n k (get_or ds x d) (get_or free x false)
-made_at defs n k [] free x d e h = absurd (omega (arith, h))
-made_at defs n k (y ∷ ds) [] x d e h = absurd cc
-made_at defs n k (y ∷ ds) (b ∷ free) zero d e h = refl
-made_at defs n k (y ∷ ds) (b ∷ free) (suc x) d e h = made_at defs n k ds free x d (omega (arith, e)) (omega (arith, h))
+made_at : (defs : Definitions) (n k c : ℕ) (ds : Definitions) (free : List Bool) (x : ℕ) (d : ToplevelDefinition) → length free ≡ length ds → x < length ds →
+    get_or (made_each defs n k c ds free) x None ≡ made_where defs n k c (get_or ds x d) (get_or free x false)
+made_at defs n k c [] free x d e h = absurd (omega (arith, h))
+made_at defs n k c (y ∷ ds) [] x d e h = absurd cc
+made_at defs n k c (y ∷ ds) (b ∷ free) zero d e h = refl
+made_at defs n k c (y ∷ ds) (b ∷ free) (suc x) d e h = made_at defs n k c ds free x d (omega (arith, e)) (omega (arith, h))
 
 -- a name that stands alone is one of those that stay
 one_plain : (xs : List StayingName) (name : List ℕ) → Contains (plain_names xs) name → (s : StayingName) × Contains xs s × (s.1 ≡ name)
@@ -113,8 +113,8 @@ numbered_names home item (Value d) = refl
 numbered_names home item (Information d) = refl
 
 -- what linking leaves as it is keeps its type
-keeps_type : (defs : Definitions) (n k : ℕ) (e : ToplevelDefinition) (b : Bool) → is_unchanged e ≡ true → made_where defs n k e b ≡ own_type e
-keeps_type defs n k e b s = rw s refl
+keeps_type : (defs : Definitions) (n k c : ℕ) (e : ToplevelDefinition) (b : Bool) → is_unchanged e ≡ true → made_where defs n k c e b ≡ own_type e
+keeps_type defs n k c e b s = rw s refl
 
 -- a name that stands for a type is that of a definition
 last_type : (defs : Definitions) (name : List ℕ) (d : ToplevelTypeDefinition) → type_named defs name ≡ Some d → last_named defs name ≡ Some (TypeDef d)
@@ -154,8 +154,8 @@ module _ (stay : RetaggedStay) (same_names : RetaggedNamesAreTheSame) (own : Unc
   abbrev name_at : ℕ → List ℕ
   name_at x = get_or names x []
 
-  types : AreLinkedTypes all (l.steps + 0) most_levels ds l.made l.tags l.closed
-  types = l.types 0
+  types : AreLinkedTypes all most_steps most_levels most_in_circles ds l.made l.tags l.closed
+  types = l.types
 
   abbrev graph : Edges
   graph = types.closed_so.graph
@@ -170,7 +170,7 @@ module _ (stay : RetaggedStay) (same_names : RetaggedNamesAreTheSame) (own : Unc
   free_is_long = free_long all ds types.free types.are_free
 
   made_is_long : length l.made ≡ length ds
-  made_is_long = ap length types.made_so ∙ made_long all (l.steps + 0) most_levels ds types.free free_is_long
+  made_is_long = ap length types.made_so ∙ made_long all most_steps most_levels most_in_circles ds types.free free_is_long
 
   closed_is_long : length l.closed ≡ length names
   closed_is_long =
@@ -231,11 +231,10 @@ module _ (stay : RetaggedStay) (same_names : RetaggedNamesAreTheSame) (own : Unc
   -- its type is what was made
   type_made : (x : ℕ) (f : LeftAt x) → get_or l.made x None ≡ Some f.type.ty
   type_made x f =
-      let n = l.steps + 0 in
       ap (λ m. get_or m x None) types.made_so
-      ∙ made_at all n most_levels ds types.free x root free_is_long f.within
-      ∙ ap (λ e. made_where all n most_levels e (get_or types.free x false)) f.there
-      ∙ keeps_type all n most_levels (TypeDef f.type) (get_or types.free x false) f.stays
+      ∙ made_at all most_steps most_levels most_in_circles ds types.free x root free_is_long f.within
+      ∙ ap (λ e. made_where all most_steps most_levels most_in_circles e (get_or types.free x false)) f.there
+      ∙ keeps_type all most_steps most_levels most_in_circles (TypeDef f.type) (get_or types.free x false) f.stays
 
   -- it is not open
   not_marked : (x : ℕ) → LeftAt x → IsMarked marked x → ⊥

@@ -15,17 +15,17 @@ free_long defs [] (b ∷ free) all = absurd all
 free_long defs (x ∷ ds) [] all = absurd all
 free_long defs (x ∷ ds) (b ∷ free) all = ap suc (free_long defs ds free all.1)
 
-pub made_long : (defs : Definitions) (n k : ℕ) (ds : Definitions) (free : List Bool) → length free ≡ length ds → length (made_each defs n k ds free) ≡ length ds
-made_long defs n k [] free e = refl
-made_long defs n k (d ∷ ds) [] e = absurd cc
-made_long defs n k (d ∷ ds) (b ∷ free) e = ap suc (made_long defs n k ds free (omega (arith, e)))
+pub made_long : (defs : Definitions) (n k c : ℕ) (ds : Definitions) (free : List Bool) → length free ≡ length ds → length (made_each defs n k c ds free) ≡ length ds
+made_long defs n k c [] free e = refl
+made_long defs n k c (d ∷ ds) [] e = absurd cc
+made_long defs n k c (d ∷ ds) (b ∷ free) e = ap suc (made_long defs n k c ds free (omega (arith, e)))
 
-pub tags_long : (defs : Definitions) (n k : ℕ) (ds : Definitions) (free : List Bool) → length free ≡ length ds → length (tag_each defs n k ds free) ≡ length ds
-tags_long defs n k [] free e = refl
-tags_long defs n k (d ∷ ds) [] e = absurd cc
-tags_long defs n k (d ∷ ds) (b ∷ free) e = ap suc (tags_long defs n k ds free (omega (arith, e)))
+pub tags_long : (defs : Definitions) (n k c : ℕ) (ds : Definitions) (free : List Bool) → length free ≡ length ds → length (tag_each defs n k c ds free) ≡ length ds
+tags_long defs n k c [] free e = refl
+tags_long defs n k c (d ∷ ds) [] e = absurd cc
+tags_long defs n k c (d ∷ ds) (b ∷ free) e = ap suc (tags_long defs n k c ds free (omega (arith, e)))
 
-pub types_long : {defs : Definitions} {n k : ℕ} {ds : Definitions} {made : List (Option ASN1Type)} {tags : List (Option AsnTag)} {closed : List Bool} → AreLinkedTypes defs n k ds made tags closed → AsLong ds tags made
-types_long {defs} {n} {k} {ds} t =
+pub types_long : {defs : Definitions} {n k c : ℕ} {ds : Definitions} {made : List (Option ASN1Type)} {tags : List (Option AsnTag)} {closed : List Bool} → AreLinkedTypes defs n k c ds made tags closed → AsLong ds tags made
+types_long {defs} {n} {k} {c} {ds} t =
     let l = free_long defs ds t.free t.are_free in
-    record { of_tags = ap length t.tagged_so ∙ tags_long defs n k ds t.free l; of_made = ap length t.made_so ∙ made_long defs n k ds t.free l }
+    record { of_tags = ap length t.tagged_so ∙ tags_long defs n k c ds t.free l; of_made = ap length t.made_so ∙ made_long defs n k c ds t.free l }

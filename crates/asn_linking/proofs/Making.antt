@@ -1,24 +1,24 @@
 -- What linking gives, put together.
-use Rattle.std.proofs.Common.{◌≡◌, ℕ, ◌+◌, List, Bool, Option, length, map, sym, ap, ◌∙◌}
+use Rattle.std.proofs.Common.{◌≡◌, List, Bool, Option, length, map, sym, ap, ◌∙◌}
 use Rattle.std.specs.Prelude.{is_some}
 use Rattle.std.proofs.lemmas.List.{length-map}
 use Rattle.asn_headers.specs.declared.headers.AsnTag.{AsnTag}
 use Rattle.asn_tree.specs.declared.types.ASN1Type.{ASN1Type}
 use Rattle.asn_index.specs.Definitions.{Definitions, IsStanding, name_of}
 use Rattle.asn_instances.specs.Linked.{AreLinkedTypes}
-use Rattle.asn_linking.specs.Linked.{IsLinking, linked_each, Linking, most_levels}
+use Rattle.asn_linking.specs.Linked.{IsLinking, linked_each, Linking, most_in_circles, most_levels, most_steps}
 use Rattle.asn_linking.proofs.Given.{linked_long, names_kept}
 use Rattle.asn_linking.proofs.Long.{types_long}
 
-module _ (defs ds : Definitions) (stand : IsStanding defs ds) (made : List (Option ASN1Type)) (tags : List (Option AsnTag)) (closed : List Bool) (steps : ℕ)
-    (types : (m : ℕ) → AreLinkedTypes defs (steps + m) most_levels ds made tags closed) where
+module _ (defs ds : Definitions) (stand : IsStanding defs ds) (made : List (Option ASN1Type)) (tags : List (Option AsnTag)) (closed : List Bool)
+    (types : AreLinkedTypes defs most_steps most_levels most_in_circles ds made tags closed) where
   abbrev made_linking : Linking defs
-  made_linking = record { standing = ds; stand = stand; made = made; tags = tags; closed = closed; steps = steps; types = types }
+  made_linking = record { standing = ds; stand = stand; made = made; tags = tags; closed = closed; types = types }
 
   pub is_linking : (definitions : Definitions) (told closed_ones : List Bool) → definitions ≡ linked_each ds tags made → told ≡ map is_some made → closed_ones ≡ closed →
       IsLinking defs definitions told closed_ones
   is_linking definitions told closed_ones linked said same =
-      let long = types_long (types 0) in
+      let long = types_long types in
       record {
         linking = made_linking;
         linked = linked;

@@ -1,5 +1,5 @@
 -- A clean definition means what it meant.
-use Rattle.std.proofs.Common.{◌≡◌, ℕ, zero, suc, ◌<◌, inl, true, false, Option, Some, None, List, [], ◌∷◌, length, map, get_or, refl, sym, ap, ◌∙◌, subst, arith}
+use Rattle.std.proofs.Common.{◌≡◌, ℕ, zero, suc, ◌<◌, ◌≤◌, inl, true, false, Option, Some, None, List, [], ◌∷◌, length, map, get_or, refl, sym, ap, ◌∙◌, subst, arith}
 use Rattle.std.specs.List.{AllZip}
 use Rattle.std.proofs.lemmas.List.{length-map}
 use Rattle.asn_headers.specs.declared.headers.AsnTag.{AsnTag}
@@ -18,7 +18,7 @@ use Rattle.asn_own_instances.specs.Laws.{Eventually}
 use Rattle.asn_instances.specs.Laws.{MadeAreInstances}
 use Rattle.asn_instances.specs.Linked.{AreLinkedTypes}
 use Rattle.asn_linking.specs.Laws.{CleanMeanTheSame}
-use Rattle.asn_linking.specs.Linked.{Linking, linked_definitions, linked_one, most_levels}
+use Rattle.asn_linking.specs.Linked.{Linking, linked_definitions, linked_one, most_in_circles, most_levels, most_steps}
 use Rattle.asn_linking.proofs.Long.{free_long, types_long}
 use Rattle.asn_linking.proofs.Given.{AsLong, BothStand, both_stand, linked_at, linked_long, name_kept, names_kept, opens}
 
@@ -43,15 +43,23 @@ open_at (y ∷ ds) (m ∷ made) (suc x) d e h = open_at ds made x d (omega (arit
 
 -- ---- what linking makes of definitions
 
+-- one step fewer than there are
+fewer : ℕ
+fewer = 4095
+
+all_steps : most_steps ≡ suc fewer
+unfolding fewer
+all_steps = refl
+
+few_in_circles : most_in_circles ≤ suc fewer
+few_in_circles = subst (λ i. most_in_circles ≤ i) all_steps (omega arith)
+
 module _ (instances : MadeAreInstances) {defs : Definitions} (l : Linking defs) where
   abbrev ds : Definitions
   ds = l.standing
 
-  abbrev n : ℕ
-  n = l.steps
-
-  types : AreLinkedTypes defs (suc n) most_levels ds l.made l.tags l.closed
-  types = subst (λ i. AreLinkedTypes defs i most_levels ds l.made l.tags l.closed) (omega arith) (l.types 1)
+  types : AreLinkedTypes defs (suc fewer) most_levels most_in_circles ds l.made l.tags l.closed
+  types = subst (λ i. AreLinkedTypes defs i most_levels most_in_circles ds l.made l.tags l.closed) all_steps l.types
 
   free_is_long : length types.free ≡ length ds
   free_is_long = free_long defs ds types.free types.are_free
@@ -60,15 +68,15 @@ module _ (instances : MadeAreInstances) {defs : Definitions} (l : Linking defs) 
   as_long = types_long types
 
   -- the levels within which all that was made is an instance
-  made_there : Eventually (λ j. AllZip (IsMade defs (suc n) j) ds l.made)
+  made_there : Eventually (λ j. AllZip (IsMade defs (suc fewer) j) ds l.made)
   made_there =
-      let e = instances defs ds types.free n most_levels free_is_long in
-      record { levels = e.levels; holds = λ j le. subst (AllZip (IsMade defs (suc n) j) ds) (sym types.made_so) (e.holds j le) }
+      let e = instances defs ds types.free fewer most_levels most_in_circles few_in_circles free_is_long in
+      record { levels = e.levels; holds = λ j le. subst (AllZip (IsMade defs (suc fewer) j) ds) (sym types.made_so) (e.holds j le) }
 
   abbrev levels : ℕ
   levels = made_there.levels
 
-  all_made : AllZip (IsMade defs (suc n) levels) ds l.made
+  all_made : AllZip (IsMade defs (suc fewer) levels) ds l.made
   all_made = made_there.holds levels (omega arith)
 
   long_names : length (map name_of ds) ≡ length ds
@@ -86,7 +94,7 @@ module _ (instances : MadeAreInstances) {defs : Definitions} (l : Linking defs) 
           let k = as_long.of_made in
           omega (arith, f, g, m, k, h)
 
-  linked_so : (d : ToplevelDefinition) (t : Option AsnTag) (m : Option ASN1Type) → IsMade defs (suc n) levels d m → (is_open d m ≡ true → ⊥) → IsLinked d m (Some (linked_one d t m))
+  linked_so : (d : ToplevelDefinition) (t : Option AsnTag) (m : Option ASN1Type) → IsMade defs (suc fewer) levels d m → (is_open d m ≡ true → ⊥) → IsLinked d m (Some (linked_one d t m))
   linked_so (TypeDef d) t None i o = absurd (o refl)
   linked_so (TypeDef d) t (Some ty) i o = (i.0, refl)
   linked_so (Value d) t m i o = tt
@@ -106,7 +114,7 @@ module _ (instances : MadeAreInstances) {defs : Definitions} (l : Linking defs) 
       let within : x < length others = (let e = linked_long ds l.tags l.made as_long in omega (arith, e, h)) in
       let stands : last_named others (name_of here) ≡ Some (linked_one here tag made) =
       ap (last_named others) (sym named) ∙ stands_for others x d up within ∙ ap Some there in
-      subst (IsLinked here made) (sym stands) (linked_so here tag made (zip_at (IsMade defs (suc n) levels) ds l.made x d None all_made h) (not_open x d h c))
+      subst (IsLinked here made) (sym stands) (linked_so here tag made (zip_at (IsMade defs (suc fewer) levels) ds l.made x d None all_made h) (not_open x d h c))
 
   both : (name : List ℕ) → BothStand (last_named defs name) (last_named others name)
   both name = subst (λ o. BothStand o (last_named others name)) (l.stand.each name) (both_stand ds l.tags l.made name as_long)
@@ -121,9 +129,9 @@ module _ (instances : MadeAreInstances) {defs : Definitions} (l : Linking defs) 
   are_linked : AreLinked defs others ds l.made l.closed
   are_linked = record { each = each; none_added = none; opens = opens defs others both }
 
-  names_closed : ClosedDefinitionsClose → NamesAreClosed (closed_names (map name_of ds) l.closed) defs others (suc n) levels
-  names_closed close = close defs others ds l.made l.closed (suc n) levels l.stand all_made types.closed_so are_linked
+  names_closed : ClosedDefinitionsClose → NamesAreClosed (closed_names (map name_of ds) l.closed) defs others (suc fewer) levels
+  names_closed close = close defs others ds l.made l.closed (suc fewer) levels l.stand all_made types.closed_so are_linked
 
 pub clean_mean_the_same : MadeAreInstances → ClosedDefinitionsClose → ClosedNamesMeanTheSame → CleanMeanTheSame
 clean_mean_the_same instances close same defs l name d clean is =
-    same (closed_names (map name_of l.standing) l.closed) defs (linked_definitions l) (suc l.steps) (levels instances l) (names_closed instances l close) name d clean is
+    same (closed_names (map name_of l.standing) l.closed) defs (linked_definitions l) (suc fewer) (levels instances l) (names_closed instances l close) name d clean is

@@ -1,5 +1,5 @@
 -- The definitions that linking gives, and what it makes of them.
-use Rattle.std.specs.Prelude.{◌≡◌, ◌+◌, ℕ, List, [], ◌∷◌, Bool, false, Option, Some, None, is_some, length, map, if◌then◌else◌}
+use Rattle.std.specs.Prelude.{◌≡◌, ℕ, List, [], ◌∷◌, Bool, false, Option, Some, None, is_some, length, map, if◌then◌else◌}
 use Rattle.std.specs.Str.{bytes_eq}
 use Rattle.asn_headers.specs.declared.headers.AsnTag.{AsnTag}
 use Rattle.asn_tree.specs.declared.definitions.ToplevelDefinition.{ToplevelDefinition}
@@ -32,19 +32,26 @@ linked_each (d ∷ ds) (t ∷ tags) (m ∷ made) = linked_one d t m ∷ linked_e
 
 -- ---- what linking makes of definitions
 
+-- within how many steps it is asked what a name leads to
+abbrev pub most_steps : ℕ
+most_steps = 4096
+
 -- how many levels of names and parts an instance may have
 abbrev pub most_levels : ℕ
 most_levels = 4096
 
--- What linking makes of the definitions that stand: their types and tags, and which of them are closed, from some number of steps on.
+-- as many steps and levels a definition has that leads to a circle
+abbrev pub most_in_circles : ℕ
+most_in_circles = 256
+
+-- What linking makes of the definitions that stand: their types and tags, and which of them are closed.
 pub record Linking (defs : Definitions) : Type 0 where
   pub standing : Definitions
   pub stand : IsStanding defs standing
   pub made : List (Option ASN1Type)
   pub tags : List (Option AsnTag)
   pub closed : List Bool
-  pub steps : ℕ
-  pub types : (m : ℕ) → AreLinkedTypes defs (steps + m) most_levels standing made tags closed
+  pub types : AreLinkedTypes defs most_steps most_levels most_in_circles standing made tags closed
 
 -- what is told of the name among these; of a name that is not among them no
 abbrev pub is_told : List (List ℕ) → List Bool → List ℕ → Bool

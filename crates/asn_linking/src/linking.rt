@@ -1,7 +1,7 @@
 //! Linking definitions.
 
 ghost use Rattle.asn_index.specs.Definitions.{IsStanding};
-ghost use Rattle.asn_linking.specs.Linked.{IsLinking, linked_each, linked_one, with_type};
+ghost use Rattle.asn_linking.specs.Linked.{IsLinking, linked_each, linked_one, most_in_circles, most_levels, most_steps, with_type};
 ghost use Rattle.std.specs.Prelude.{◌≡◌, IfOk, is_some, length, map};
 
 use asn_copy_trees::{
@@ -16,11 +16,14 @@ use std::alloc::Global;
 
 /// How far instances are looked for.
 fn limits() -> Limits
-    ensures { result.levels ≡ 4096 }
+    ensures steps { result.steps ≡ most_steps }
+    ensures levels { result.levels ≡ most_levels }
+    ensures in_circles { result.in_circles ≡ most_in_circles }
 {
     Limits {
         steps: 4_096,
         levels: 4_096,
+        in_circles: 256,
         room: 1_000_000,
     }
 }
@@ -160,12 +163,12 @@ fn closed_of(types: LinkedTypes) -> List<bool>
 }
 
 /// What linking gives of the definitions that stand, in their order: one of a type that linking leaves as it is, and one that is no
-/// template, leads to no circle and has an instance within 4,096 levels, gets the type that is made of it and that type's tag; every other
-/// stays. `standing` is what `Names::standing` gives of `names`.
+/// template and has an instance within 4,096 steps and levels, gets the type that is made of it and that type's tag; every other stays. One
+/// that leads to a circle has 256 steps and levels. `standing` is what `Names::standing` gives of `names`.
 ///
 /// # Errors
 ///
-/// Want of memory, also where an instance takes more than 4,096 steps to a head or has more than a million nodes.
+/// Want of memory, also where an instance has more than a million nodes.
 pub fn link_definitions<'a>(
     alloc: Global,
     names: &Names<'a>,

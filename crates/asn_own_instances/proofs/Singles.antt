@@ -21,7 +21,7 @@ use Rattle.asn_meaning.specs.Meaning.{Meaning}
 use Rattle.asn_meaning.specs.Ranges.{integer_named, named_numbers_in}
 use Rattle.asn_meaning.specs.Scopes.{Scope, Place}
 use Rattle.asn_meaning.specs.Written.{as_written, written_at}
-use Rattle.asn_instance.specs.Literals.{all_or, is_item_name, is_literal, is_own_head, single_written, value_written, written_by_tree}
+use Rattle.asn_instance.specs.Literals.{all_or, is_item_name, is_literal, is_literal_under, is_own_arcs, is_own_head, single_written, value_written, written_by_tree}
 use Rattle.asn_instance.specs.Subjects.{Subject, OnValues, OnCharacters, ends_read, values_read}
 use Rattle.asn_unchanged.specs.Unchanged.{braced, is_single, literal, telling, value_form, with_arc, with_arcs, with_item, with_items}
 use Rattle.asn_unchanged.specs.declared.literals.Literal.{Literal}
@@ -97,8 +97,8 @@ written_same : (M : Meaning) (scope : Scope) (v : ASN1Value) (p : Place) → is_
     value_written M scope v p ≡ Some v
 written_same M scope v p own h =
     let other = written_by_tree (M.is_all scope v p) (M.denotes scope v p) (kind_of p) in
-    ap (λ b. if b then (if is_literal (as_written v) || is_item_name scope (kind_of p) (as_written v) then Some v else other) else None) own
-    ∙ ap (λ b. if b || is_item_name scope (kind_of p) (as_written v) then Some v else other) h
+    ap (λ b. if b then (if is_literal_under (kind_of p) (as_written v) || is_item_name scope (kind_of p) (as_written v) then Some v else other) else None) own
+    ∙ ap (λ b. if (b || is_own_arcs (kind_of p) (as_written v)) || is_item_name scope (kind_of p) (as_written v) then Some v else other) h
 
 pub end_same : (M : Meaning) (scope : Scope) (v : ASN1Value) (p : Place) → is_own_head (kind_of p) ≡ true → is_single (literal v) ≡ true →
     value_written M scope v p ≡ Some v

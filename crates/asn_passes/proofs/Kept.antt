@@ -1,5 +1,5 @@
 -- An instance means what the type does in its scope, and is in plain form.
-use Rattle.std.proofs.Common.{◌+◌, inl, refl, sym, ◌∙◌}
+use Rattle.std.proofs.Common.{inl, refl, sym, ◌∙◌}
 use Rattle.asn_instance.specs.Closed.{every_name}
 use Rattle.asn_instance.specs.Laws.{InstancesArePlain, LiteralsKept, LiteralsPlain, Substitution}
 use Rattle.asn_instance.specs.Literals.{literals}
@@ -9,6 +9,6 @@ pub promise : Substitution → LiteralsKept → LiteralsPlain → InstancesArePl
 promise same kept plain are_plain defs steps levels down scope ty made is = record {
   instance_of = is;
   meaning_kept = λ uy e t.
-      same (literals every_name) defs defs (steps + 0) levels (inl refl) (kept every_name defs defs _).0 (kept every_name defs defs _).1 down scope ty uy t (sym (is 0) ∙ e);
-  is_plain = λ uy e. are_plain (literals every_name) defs defs (steps + 0) levels (inl refl) (kept every_name defs defs _).0 (plain every_name defs defs _) down scope ty uy (sym (is 0) ∙ e);
+      same (literals every_name) defs defs steps levels (inl refl) (kept every_name defs defs _).0 (kept every_name defs defs _).1 down scope ty uy t (sym is ∙ e);
+  is_plain = λ uy e. are_plain (literals every_name) defs defs steps levels (inl refl) (kept every_name defs defs _).0 (plain every_name defs defs _) down scope ty uy (sym is ∙ e);
 }

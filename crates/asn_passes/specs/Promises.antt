@@ -1,5 +1,5 @@
 -- What is promised of a type that is linked by itself.
-use Rattle.std.specs.Prelude.{◌≡◌, ◌↔◌, ◌+◌, ℕ, Bool, false, true, Option, Some, None}
+use Rattle.std.specs.Prelude.{◌≡◌, ◌↔◌, ℕ, Bool, false, true, Option, Some, None}
 use Rattle.asn_tree.specs.declared.types.ASN1Type.{ASN1Type}
 use Rattle.asn_forms.specs.Forms.{stands_in}
 use Rattle.asn_forms.specs.declared.forms.Form.{Form}
@@ -18,10 +18,10 @@ use Rattle.asn_passes.specs.declared.passes.Pass.TheVariants.{Stays, Linked, Los
 abbrev pub MeanTheSame : Definitions → Scope → ASN1Type → ASN1Type → Type 0
 MeanTheSame defs scope ty uy = (t : ValueTree) → (Accepts defs scope ty t ↔ Accepts defs Empty uy t) × (Rejects defs scope ty t ↔ Rejects defs Empty uy t)
 
--- What is made of a type that is written in a scope is its instance within so many levels, in which every name may stay, whatever
--- further steps tell; it means the same, and is in plain form. `down` asks for the type down to the head.
+-- What is made of a type that is written in a scope is its instance within so many steps and levels, in which every name may stay; it
+-- means the same, and is in plain form. `down` asks for the type down to the head.
 pub record IsLinkedType (defs : Definitions) (steps levels : ℕ) (down : Bool) (scope : Scope) (ty : ASN1Type) (made : Option ASN1Type) : Type 0 where
-  pub instance_of : (m : ℕ) → made ≡ (instance (literals every_name) defs (steps + m) levels).of_type down scope ty
+  pub instance_of : made ≡ (instance (literals every_name) defs steps levels).of_type down scope ty
   pub meaning_kept : (uy : ASN1Type) → made ≡ Some uy → MeanTheSame defs scope ty uy
   pub is_plain : (uy : ASN1Type) → made ≡ Some uy → IsPlain defs uy
 
@@ -29,7 +29,7 @@ pub record IsLinkedType (defs : Definitions) (steps levels : ℕ) (down : Bool) 
 abbrev pub InstancesPromise : Type 0
 InstancesPromise =
     (defs : Definitions) (steps levels : ℕ) (down : Bool) (scope : Scope) (ty : ASN1Type) (made : Option ASN1Type) →
-    ((m : ℕ) → made ≡ (instance (literals every_name) defs (steps + m) levels).of_type down scope ty) → IsLinkedType defs steps levels down scope ty made
+    made ≡ (instance (literals every_name) defs steps levels).of_type down scope ty → IsLinkedType defs steps levels down scope ty made
 
 -- A pass leaves a type in which the form does not stand, and of any other it gives what linking makes, in the empty scope.
 abbrev pub IsPass : Form → Definitions → ℕ → ℕ → ASN1Type → Pass → Type 0

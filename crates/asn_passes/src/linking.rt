@@ -17,7 +17,7 @@ use std::alloc::Global;
 /// How far an instance is looked for.
 #[derive(Clone, Copy, Debug, PartialEq, Eq)]
 pub struct Limits {
-    /// The steps within which it is asked what a name leads to. Where they are used up, memory is wanted.
+    /// The steps within which it is asked what a name leads to. Where they are used up, nothing is known.
     pub steps: usize,
     /// The levels of names and parts that an instance may have. One that has more is none.
     pub levels: usize,
@@ -27,7 +27,7 @@ pub struct Limits {
 
 /// What linking makes of a type at a place.
 ///
-/// None: there is no instance within the levels. Err: want of memory, also where the steps or the room are used up.
+/// None: there is no instance within these steps and levels. Err: want of memory, also where the room is used up.
 fn linked<'a>(
     alloc: Global,
     names: &Names<'a>,
@@ -55,11 +55,12 @@ fn linked<'a>(
 /// contained subtypes and the names of values in constraints are put in (X.680 25.5, 30, 51.2 to 51.4, X.681 14, X.683 8, 9). It accepts and
 /// rejects the same trees as the type, and is in plain form.
 ///
-/// None: there is none within the levels: a name leads nowhere, a part that a constraint names is missing, or a value has no literal.
+/// None: there is none within these steps and levels: they are too few, a name leads nowhere, a part that a constraint names is missing,
+/// or a value has no literal.
 ///
 /// # Errors
 ///
-/// Want of memory, also where the steps or the room are used up.
+/// Want of memory, also where the room is used up.
 pub fn link_type<'a>(
     alloc: Global,
     names: &Names<'a>,
@@ -83,7 +84,7 @@ pub fn link_type<'a>(
 ///
 /// # Errors
 ///
-/// Want of memory, also where the steps or the room are used up.
+/// Want of memory, also where the room is used up.
 pub fn link_subtype_constraint<'a>(
     alloc: Global,
     names: &Names<'a>,
@@ -107,7 +108,7 @@ pub fn link_subtype_constraint<'a>(
 ///
 /// # Errors
 ///
-/// Want of memory, also where the steps or the room are used up.
+/// Want of memory, also where the room is used up.
 pub fn resolve_parameters<'a>(
     alloc: Global,
     names: &Names<'a>,

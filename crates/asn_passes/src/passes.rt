@@ -18,7 +18,7 @@ pub enum Pass {
     Stays,
     /// What takes the type's place.
     Linked(ASN1Type),
-    /// There is no instance within the levels.
+    /// There is no instance within these steps and levels.
     Lost,
 }
 

@@ -4,7 +4,7 @@ ghost use Rattle.asn_passes.specs.Promises.{InstancesPromise};
 
 use asn_instance::{instances_are_plain, literals_kept, literals_plain, substitution};
 
-/// An instance of which it is known what it is, whatever further steps tell, keeps what the type means in its scope, and is in plain form.
+/// An instance keeps what the type means in its scope, and is in plain form.
 pub(crate) fn instances_promise()
     ensures { InstancesPromise }
 {

@@ -5,3 +5,4 @@ pub mod Opening
 pub mod Outside
 pub mod Rising
 pub mod Staying
+pub mod Writing

@@ -12,8 +12,11 @@ shown_placed placed.All = value.All
 shown_placed placed.Null = value.Null
 shown_placed (placed.Truth b) = value.Boolean b
 shown_placed (placed.Number i) = value.Integer i
+shown_placed (placed.Real x) = value.Real x
 shown_placed (placed.Bits bits) = value.BitString bits
 shown_placed (placed.Octets octets) = value.OctetString octets
+shown_placed (placed.Text text) = value.String text
+shown_placed (placed.Arcs arcs) = value.ObjectIdentifier (record { 0 = arcs })
 shown_placed (placed.Item name) = value.ElsewhereDeclaredValue None name.now
 
 abbrev pub is_outside : Scope → Bool

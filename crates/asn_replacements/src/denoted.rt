@@ -4,274 +4,23 @@ ghost use Rattle.asn_denotes.specs.Denotation.{shown_denotation};
 ghost use Rattle.asn_heads.specs.Kinds.{shown_kind};
 ghost use Rattle.asn_heads.specs.Places.{shown_place};
 ghost use Rattle.asn_heads.specs.Scopes.{shown};
-ghost use Rattle.asn_instance.specs.Literals.{item_numbered, written, written_by_tree};
+ghost use Rattle.asn_instance.specs.Literals.{written_by_tree};
 ghost use Rattle.asn_meaning.specs.Answers.{No};
 ghost use Rattle.asn_meaning.specs.Judge.{meaning};
-ghost use Rattle.asn_meaning.specs.Kinds.{BitStringKind, BooleanKind, EnumeratedKind, IntegerKind, NullKind, OctetStringKind, kind_of};
-ghost use Rattle.asn_meaning.specs.ValueTrees.{ItemNumber};
+ghost use Rattle.asn_meaning.specs.Kinds.{kind_of};
 ghost use Rattle.asn_replacements.specs.Values.{shown_placed};
-ghost use Rattle.asn_replacements.specs.inner.Numbered.{first_numbered, numbered_by};
-ghost use Rattle.asn_shapes.specs.Trees.{shown_tree};
-ghost use Rattle.std.specs.Option.{option_copied, option_map};
-ghost use Rattle.std.specs.Prelude.{◌≡◌, ◌+◌, ℕ, IfOk, None};
+ghost use Rattle.std.specs.Option.{option_map};
+ghost use Rattle.std.specs.Prelude.{◌≡◌, IfOk};
 
+use crate::trees::written;
 use crate::values::PlacedValue;
-use asn_denotes::{Denotation, denotes, is_all};
-use asn_heads::{Kind, Place, Scope, ValueForm, item_named, kind_of};
+use asn_denotes::{Denotation, is_all_within, leaf_within};
+use asn_heads::{Kind, Place, Scope, ValueForm, kind_of};
 use asn_index::Names;
-use asn_memory::{List, Mem, Text};
-use asn_shapes::{Answer, Tree, View};
-use asn_tree::{ASN1Value, Enumeral};
+use asn_memory::Mem;
+use asn_shapes::{Answer, Tree};
+use asn_tree::ASN1Value;
 use std::alloc::Global;
-
-/// The first item of the number.
-#[tactic(auto, using(crate::proofs::Numbering::item_first, crate::proofs::Numbering::no_item_left))]
-fn first_numbered<'a>(items: &'a [Enumeral], number: i128) -> Option<&'a Enumeral>
-    ensures { option_copied result ≡ first_numbered items.now number }
-{
-    for item in items {
-        if item.index == number {
-            return Some(item);
-        }
-    }
-    None
-}
-
-/// The item's name, where the first item of the name has the number too.
-#[tactic(auto, using(crate::proofs::Numbering::unnamed, crate::proofs::Numbering::named_so))]
-fn numbered_by<'a>(items: &[Enumeral], number: i128, item: &'a Enumeral) -> Option<&'a Text>
-    ensures { option_copied result ≡ numbered_by items.now number item.now }
-{
-    match item_named(items, item.name.as_str()) {
-        None => None,
-        Some(index) => {
-            if index == number {
-                Some(&item.name)
-            } else {
-                None
-            }
-        }
-    }
-}
-
-/// An item's name for its number, where it is the name of this number alone.
-#[tactic(auto, using(crate::proofs::Numbering::not_numbered, crate::proofs::Numbering::numbered))]
-fn item_numbered<'a>(items: &'a [Enumeral], number: i128) -> Option<&'a Text>
-    ensures { option_copied result ≡ item_numbered items.now number }
-{
-    match first_numbered(items, number) {
-        None => None,
-        Some(item) => numbered_by(items, number, item),
-    }
-}
-
-/// The name of the item of the number.
-#[tactic(auto, using(crate::proofs::Numbering::no_name, crate::proofs::Numbering::some_name))]
-fn item_of_number<'a>(items: &'a [Enumeral], number: i128) -> Option<PlacedValue<'a>>
-    ensures { option_map shown_placed result ≡ written (EnumeratedKind items.now) (ItemNumber number) }
-{
-    match item_numbered(items, number) {
-        None => None,
-        Some(name) => Some(PlacedValue::Item(name)),
-    }
-}
-
-/// The value of NULL, where the tree is it.
-fn null_written<'a>(tree: &Tree) -> Option<PlacedValue<'a>>
-    ensures { option_map shown_placed result ≡ written NullKind (shown_tree tree.now) }
-{
-    match tree.view() {
-        View::Null => Some(PlacedValue::Null),
-        View::Truth(_) => None,
-        View::Whole(_) => None,
-        View::Item(_) => None,
-        View::Real(_) => None,
-        View::Bits(_) => None,
-        View::Octets(_) => None,
-        View::Text(_) => None,
-        View::Arcs(_) => None,
-        View::Struct(_) => None,
-        View::Elements(_) => None,
-        View::Alternative(_, _) => None,
-        View::Opaque => None,
-    }
-}
-
-/// The truth value that the tree is.
-fn truth_written<'a>(tree: &Tree) -> Option<PlacedValue<'a>>
-    ensures { option_map shown_placed result ≡ written BooleanKind (shown_tree tree.now) }
-{
-    match tree.view() {
-        View::Truth(truth) => Some(PlacedValue::Truth(truth)),
-        View::Null => None,
-        View::Whole(_) => None,
-        View::Item(_) => None,
-        View::Real(_) => None,
-        View::Bits(_) => None,
-        View::Octets(_) => None,
-        View::Text(_) => None,
-        View::Arcs(_) => None,
-        View::Struct(_) => None,
-        View::Elements(_) => None,
-        View::Alternative(_, _) => None,
-        View::Opaque => None,
-    }
-}
-
-/// The whole number that the tree is.
-fn number_written<'a>(tree: &Tree) -> Option<PlacedValue<'a>>
-    ensures { option_map shown_placed result ≡ written (IntegerKind None) (shown_tree tree.now) }
-{
-    match tree.view() {
-        View::Whole(number) => Some(PlacedValue::Number(number)),
-        View::Null => None,
-        View::Truth(_) => None,
-        View::Item(_) => None,
-        View::Real(_) => None,
-        View::Bits(_) => None,
-        View::Octets(_) => None,
-        View::Text(_) => None,
-        View::Arcs(_) => None,
-        View::Struct(_) => None,
-        View::Elements(_) => None,
-        View::Alternative(_, _) => None,
-        View::Opaque => None,
-    }
-}
-
-/// The bits once more.
-///
-/// Err: want of memory.
-#[tactic(auto, using(crate::proofs::Copying::item_next, crate::proofs::Copying::items_done))]
-fn copied_bits(alloc: Global, bits: &[bool]) -> Mem<List<bool>>
-    ensures { IfOk result (λ copied. copied ≡ bits.now) }
-{
-    let mut copied = List::new(alloc);
-    for bit in bits {
-        copied.add(*bit)?;
-    }
-    Ok(copied)
-}
-
-/// The octets once more.
-///
-/// Err: want of memory.
-#[tactic(auto, using(crate::proofs::Copying::item_next, crate::proofs::Copying::items_done))]
-fn copied_octets(alloc: Global, octets: &[u8]) -> Mem<List<u8>>
-    ensures { IfOk result (λ copied. copied ≡ octets.now) }
-{
-    let mut copied = List::new(alloc);
-    for octet in octets {
-        copied.add(*octet)?;
-    }
-    Ok(copied)
-}
-
-/// The bits that the tree is.
-///
-/// Err: want of memory.
-fn bits_written<'a>(alloc: Global, tree: &Tree) -> Mem<Option<PlacedValue<'a>>>
-    ensures { IfOk result (λ found. option_map shown_placed found ≡ written (BitStringKind None) (shown_tree tree.now)) }
-{
-    match tree.view() {
-        View::Bits(bits) => {
-            let copied = copied_bits(alloc, bits)?;
-            Ok(Some(PlacedValue::Bits(copied)))
-        }
-        View::Null => Ok(None),
-        View::Truth(_) => Ok(None),
-        View::Whole(_) => Ok(None),
-        View::Item(_) => Ok(None),
-        View::Real(_) => Ok(None),
-        View::Octets(_) => Ok(None),
-        View::Text(_) => Ok(None),
-        View::Arcs(_) => Ok(None),
-        View::Struct(_) => Ok(None),
-        View::Elements(_) => Ok(None),
-        View::Alternative(_, _) => Ok(None),
-        View::Opaque => Ok(None),
-    }
-}
-
-/// The octets that the tree is.
-///
-/// Err: want of memory.
-fn octets_written<'a>(alloc: Global, tree: &Tree) -> Mem<Option<PlacedValue<'a>>>
-    ensures { IfOk result (λ found. option_map shown_placed found ≡ written OctetStringKind (shown_tree tree.now)) }
-{
-    match tree.view() {
-        View::Octets(octets) => {
-            let copied = copied_octets(alloc, octets)?;
-            Ok(Some(PlacedValue::Octets(copied)))
-        }
-        View::Null => Ok(None),
-        View::Truth(_) => Ok(None),
-        View::Whole(_) => Ok(None),
-        View::Item(_) => Ok(None),
-        View::Real(_) => Ok(None),
-        View::Bits(_) => Ok(None),
-        View::Text(_) => Ok(None),
-        View::Arcs(_) => Ok(None),
-        View::Struct(_) => Ok(None),
-        View::Elements(_) => Ok(None),
-        View::Alternative(_, _) => Ok(None),
-        View::Opaque => Ok(None),
-    }
-}
-
-/// The name of the item whose number the tree is.
-fn item_written<'a>(items: &'a [Enumeral], tree: &Tree) -> Option<PlacedValue<'a>>
-    ensures { option_map shown_placed result ≡ written (EnumeratedKind items.now) (shown_tree tree.now) }
-{
-    match tree.view() {
-        View::Item(number) => item_of_number(items, number),
-        View::Null => None,
-        View::Truth(_) => None,
-        View::Whole(_) => None,
-        View::Real(_) => None,
-        View::Bits(_) => None,
-        View::Octets(_) => None,
-        View::Text(_) => None,
-        View::Arcs(_) => None,
-        View::Struct(_) => None,
-        View::Elements(_) => None,
-        View::Alternative(_, _) => None,
-        View::Opaque => None,
-    }
-}
-
-/// The literal or item of a tree under a head.
-///
-/// Err: want of memory.
-fn written<'a>(alloc: Global, kind: Kind<'a>, tree: &Tree) -> Mem<Option<PlacedValue<'a>>>
-    ensures { IfOk result (λ found. option_map shown_placed found ≡ written (shown_kind kind.entry) (shown_tree tree.now)) }
-{
-    match kind {
-        Kind::Null => Ok(null_written(tree)),
-        Kind::Boolean => Ok(truth_written(tree)),
-        Kind::Integer(_) => Ok(number_written(tree)),
-        Kind::BitString(_) => {
-            let found = bits_written(alloc, tree)?;
-            Ok(found)
-        }
-        Kind::OctetString => {
-            let found = octets_written(alloc, tree)?;
-            Ok(found)
-        }
-        Kind::Enumerated(items) => Ok(item_written(items.as_slice(), tree)),
-        Kind::Real => Ok(None),
-        Kind::CharacterString(_) => Ok(None),
-        Kind::Time => Ok(None),
-        Kind::ObjectIdentifier => Ok(None),
-        Kind::Opaque => Ok(None),
-        Kind::Struct(_) => Ok(None),
-        Kind::List(_) => Ok(None),
-        Kind::Choice(_) => Ok(None),
-        Kind::Field(_) => Ok(None),
-        Kind::Reference(_) => Ok(None),
-        Kind::Selection(_) => Ok(None),
-    }
-}
 
 /// The literal or item of what is denoted under a head.
 ///
@@ -295,7 +44,7 @@ fn denotation_written<'a>(
 
 /// The literal or item of what a value denotes under a head.
 ///
-/// None: there is neither. Err: want of memory, also where the steps are used up.
+/// None: there is neither, or it is not known within these steps. Err: want of memory.
 pub fn denoted_written<'a>(
     alloc: Global,
     names: &Names<'a>,
@@ -304,9 +53,9 @@ pub fn denoted_written<'a>(
     value: &'a ASN1Value,
     place: &Place<'a>,
 ) -> Mem<Option<PlacedValue<'a>>>
-    ensures { IfOk result (λ found. (m : ℕ) → option_map shown_placed found ≡ written_by_tree No ((meaning names.now.definitions.now (steps + m)).denotes (shown scope.now) value.now (shown_place place.now)) (kind_of (shown_place place.now))) }
+    ensures { IfOk result (λ found. option_map shown_placed found ≡ written_by_tree No ((meaning names.now.definitions.now steps).denotes (shown scope.now) value.now (shown_place place.now)) (kind_of (shown_place place.now))) }
 {
-    let denoted = denotes(alloc, names, steps, scope, ValueForm::Written(value), place)?;
+    let denoted = leaf_within(alloc, names, steps, scope, ValueForm::Written(value), place)?;
     let found = denotation_written(alloc, kind_of(place.ty), denoted)?;
     Ok(found)
 }
@@ -322,9 +71,9 @@ pub fn tree_written<'a>(
     value: &'a ASN1Value,
     place: &Place<'a>,
 ) -> Mem<Option<PlacedValue<'a>>>
-    ensures { IfOk result (λ found. (m : ℕ) → option_map shown_placed found ≡ written_by_tree ((meaning names.now.definitions.now (steps + m)).is_all (shown scope.now) value.now (shown_place place.now)) ((meaning names.now.definitions.now (steps + m)).denotes (shown scope.now) value.now (shown_place place.now)) (kind_of (shown_place place.now))) }
+    ensures { IfOk result (λ found. option_map shown_placed found ≡ written_by_tree ((meaning names.now.definitions.now steps).is_all (shown scope.now) value.now (shown_place place.now)) ((meaning names.now.definitions.now steps).denotes (shown scope.now) value.now (shown_place place.now)) (kind_of (shown_place place.now))) }
 {
-    match is_all(alloc, names, steps, scope, ValueForm::Written(value), place)? {
+    match is_all_within(alloc, names, steps, scope, ValueForm::Written(value), place)? {
         Answer::No => {
             let found = denoted_written(alloc, names, steps, scope, value, place)?;
             Ok(found)

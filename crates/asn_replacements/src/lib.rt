@@ -1,8 +1,8 @@
 //! What takes the place of values, sets, names and tags in the instance of a type, by the definitions of asn_instance.
 //!
 //! It borrows the trees and makes none: whoever makes the instance copies what a call gives. What meaning knows within a number of
-//! steps, a call computes by `steps`. Where these are used up, it fails for want of memory, so that each answer is the one of all
-//! further steps; None says for good that there is no such part. A call fails for nothing else.
+//! steps, a call computes by `steps`: each answer is the one of these steps, and None says that there is no such part or that they are
+//! too few to tell. A call fails for want of memory alone.
 #![tactic(auto)]
 
 mod denoted;
@@ -12,6 +12,7 @@ mod parts;
 mod subjects;
 mod tables;
 mod tags;
+mod trees;
 mod values;
 
 pub use names::stays;

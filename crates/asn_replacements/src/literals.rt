@@ -3,17 +3,17 @@
 ghost use Rattle.asn_heads.specs.Kinds.{shown_kind};
 ghost use Rattle.asn_heads.specs.Scopes.{shown};
 ghost use Rattle.asn_heads.specs.Written.{shown_written};
-ghost use Rattle.asn_instance.specs.Literals.{is_dummy, is_item_name, is_literal, is_own_head, is_unbound_name};
-ghost use Rattle.asn_meaning.specs.Kinds.{EnumeratedKind};
+ghost use Rattle.asn_instance.specs.Literals.{is_dummy, is_item_name, is_literal, is_literal_under, is_own_arcs, is_own_head};
+ghost use Rattle.asn_meaning.specs.Kinds.{EnumeratedKind, ObjectIdentifierKind};
 ghost use Rattle.asn_meaning.specs.Members.{item_named};
-ghost use Rattle.std.specs.Prelude.{◌≡◌, is_some};
+ghost use Rattle.std.specs.Prelude.{◌≡◌, ◌||◌, is_some};
 
 use crate::names::is_free;
 use asn_heads::{Kind, Scope, Written, item_named};
 use asn_tree::Enumeral;
 
 /// Whether a value holds neither a name nor another value; the names of bits stay.
-pub fn is_literal(written: Written<'_>) -> bool
+fn is_literal(written: Written<'_>) -> bool
     ensures { result ≡ is_literal (shown_written written.entry) }
 {
     match written {
@@ -35,6 +35,63 @@ pub fn is_literal(written: Written<'_>) -> bool
         Written::Alternative { .. } => false,
         Written::Nested(_) => false,
     }
+}
+
+/// Whether a value is an object identifier by its arcs.
+fn is_identifier(written: Written<'_>) -> bool
+    ensures { result ≡ is_own_arcs ObjectIdentifierKind (shown_written written.entry) }
+{
+    match written {
+        Written::Arcs(_) => true,
+        Written::All => false,
+        Written::Null => false,
+        Written::Truth(_) => false,
+        Written::Number(_) => false,
+        Written::Real(_) => false,
+        Written::Text(_) => false,
+        Written::Bits(_) => false,
+        Written::BitNames(_) => false,
+        Written::Octets(_) => false,
+        Written::Item(_) => false,
+        Written::Name { .. } => false,
+        Written::Braces(_) => false,
+        Written::Fields(_) => false,
+        Written::Elements(_) => false,
+        Written::Alternative { .. } => false,
+        Written::Nested(_) => false,
+    }
+}
+
+/// Whether a value is an object identifier by its arcs, under its own type.
+fn is_own_arcs(kind: Kind<'_>, written: Written<'_>) -> bool
+    ensures { result ≡ is_own_arcs (shown_kind kind.entry) (shown_written written.entry) }
+{
+    match kind {
+        Kind::ObjectIdentifier => is_identifier(written),
+        Kind::Null => false,
+        Kind::Boolean => false,
+        Kind::Integer(_) => false,
+        Kind::Real => false,
+        Kind::BitString(_) => false,
+        Kind::OctetString => false,
+        Kind::CharacterString(_) => false,
+        Kind::Time => false,
+        Kind::Enumerated(_) => false,
+        Kind::Opaque => false,
+        Kind::Struct(_) => false,
+        Kind::List(_) => false,
+        Kind::Choice(_) => false,
+        Kind::Field(_) => false,
+        Kind::Reference(_) => false,
+        Kind::Selection(_) => false,
+    }
+}
+
+/// Whether a value holds no name that is followed under a head.
+pub fn is_literal_under(kind: Kind<'_>, written: Written<'_>) -> bool
+    ensures { result ≡ is_literal_under (shown_kind kind.entry) (shown_written written.entry) }
+{
+    is_literal(written) || is_own_arcs(kind, written)
 }
 
 /// Whether a type is a head whatever is known.
@@ -122,34 +179,6 @@ pub fn is_item_name(scope: &Scope<'_>, kind: Kind<'_>, written: Written<'_>) -> 
         Kind::Field(_) => false,
         Kind::Reference(_) => false,
         Kind::Selection(_) => false,
-    }
-}
-
-/// Whether a value is a plain name that no binding has, an item's too.
-pub fn is_unbound_name(scope: &Scope<'_>, written: Written<'_>) -> bool
-    ensures { result ≡ is_unbound_name (shown scope.now) (shown_written written.entry) }
-{
-    match written {
-        Written::Name { parent, identifier } => match parent {
-            None => is_free(scope, identifier.as_str()),
-            Some(_) => false,
-        },
-        Written::All => false,
-        Written::Null => false,
-        Written::Truth(_) => false,
-        Written::Number(_) => false,
-        Written::Real(_) => false,
-        Written::Text(_) => false,
-        Written::Bits(_) => false,
-        Written::BitNames(_) => false,
-        Written::Octets(_) => false,
-        Written::Arcs(_) => false,
-        Written::Item(_) => false,
-        Written::Braces(_) => false,
-        Written::Fields(_) => false,
-        Written::Elements(_) => false,
-        Written::Alternative { .. } => false,
-        Written::Nested(_) => false,
     }
 }
 

@@ -6,9 +6,11 @@ ghost use Rattle.asn_instance.specs.Instance.{is_empty, stays};
 ghost use Rattle.asn_meaning.specs.Names.{lists_in};
 ghost use Rattle.asn_meaning.specs.Scopes.{bound_to};
 ghost use Rattle.asn_replacements.specs.Choosing.{chosen};
-ghost use Rattle.std.specs.Prelude.{◌≡◌, ◌&&◌, is_none, not};
+ghost use Rattle.std.specs.List.{list_all};
+ghost use Rattle.std.specs.Prelude.{◌≡◌, ◌&&◌, is_none, map, not};
 
 use asn_heads::{ArgumentLists, Reference, Scope, argument_lists};
+use asn_memory::Text;
 use asn_tree::Constraint;
 
 /// Whether the name is none of the scope's dummies (X.683 8.4).
@@ -16,6 +18,18 @@ pub fn is_free(scope: &Scope<'_>, name: &str) -> bool
     ensures { result ≡ is_none (bound_to (shown scope.now) name.now) }
 {
     scope.bound_to(name).is_none()
+}
+
+/// Whether each of the names is none of the scope's dummies.
+pub fn are_free(scope: &Scope<'_>, names: &[&Text]) -> bool
+    ensures { result ≡ list_all (λ name. is_none (bound_to (shown scope.now) name)) (map (λ n. n.now) names.now) }
+{
+    for name in names {
+        if !is_free(scope, name.as_str()) {
+            return false;
+        }
+    }
+    true
 }
 
 /// Whether no argument list stands among the constraints behind a name (X.683 9.1).

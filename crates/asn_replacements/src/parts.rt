@@ -17,7 +17,7 @@ ghost use Rattle.std.specs.Prelude.{◌≡◌, ◌+◌, ◌≤◌, ◌<◌, ◌^
 use asn_heads::{Kind, Place, Scope, kind_of};
 use asn_index::Names;
 use asn_memory::{Mem, Text};
-use asn_shapes::{Member, member_type, option_type, struct_members};
+use asn_shapes::{Member, member_type, option_type, struct_members_within};
 use asn_tree::SequenceOrSet;
 use std::alloc::Global;
 
@@ -32,9 +32,9 @@ fn struct_part<'a>(
     layer: &'a SequenceOrSet,
     name: &str,
 ) -> Mem<Option<Place<'a>>>
-    ensures { IfOk result (λ found. (m : ℕ) → option_map shown_place found ≡ once None ((meaning names.now.definitions.now (steps + m)).members (shown inside.now) (out-SequenceOrSet layer.now)) (λ ms. once None (member_named ms name.now) (λ m. Some (member_place m)))) }
+    ensures { IfOk result (λ found. option_map shown_place found ≡ once None ((meaning names.now.definitions.now steps).members (shown inside.now) (out-SequenceOrSet layer.now)) (λ ms. once None (member_named ms name.now) (λ m. Some (member_place m)))) }
 {
-    match struct_members(alloc, names, steps, inside, layer)? {
+    match struct_members_within(alloc, names, steps, inside, layer)? {
         None => Ok(None),
         Some(members) => {
             let place = member_type(alloc, members.as_slice(), name)?;
@@ -45,7 +45,7 @@ fn struct_part<'a>(
 
 /// The type of the part of a head that WITH COMPONENTS names (X.680 51.8.6).
 ///
-/// None: there is no such part, or its members are lost. Err: want of memory, also where the steps are used up.
+/// None: there is no such part, or the members are not known within these steps. Err: want of memory.
 pub fn part_named<'a>(
     alloc: Global,
     names: &Names<'a>,
@@ -53,7 +53,7 @@ pub fn part_named<'a>(
     head: &Place<'a>,
     name: &str,
 ) -> Mem<Option<Place<'a>>>
-    ensures { IfOk result (λ found. (m k : ℕ) → option_map shown_place found ≡ part_named chosen names.now.definitions.now (meaning names.now.definitions.now (steps + m)) (instances names.now.definitions.now (steps + m) k) (shown_place head.now).scope name.now (kind_of (shown_place head.now))) }
+    ensures { IfOk result (λ found. (k : ℕ) → option_map shown_place found ≡ part_named chosen names.now.definitions.now (meaning names.now.definitions.now steps) (instances names.now.definitions.now steps k) (shown_place head.now).scope name.now (kind_of (shown_place head.now))) }
 {
     match kind_of(head.ty) {
         Kind::Choice(options) => {

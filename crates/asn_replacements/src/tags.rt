@@ -10,13 +10,13 @@ ghost use Rattle.asn_replacements.specs.Choosing.{chosen, instances};
 ghost use Rattle.asn_replacements.specs.inner.Bringing.{brings, definition_tag, head_brings, option_brings, reference_brings, selection_brings, shown_brought, target_brings};
 ghost use Rattle.asn_tree.specs.declared.types.ChoiceOption.{out-ChoiceOption};
 ghost use Rattle.std.specs.Option.{option_map};
-ghost use Rattle.std.specs.Prelude.{◌≡◌, ◌+◌, ℕ, IfOk, Some};
+ghost use Rattle.std.specs.Prelude.{◌≡◌, IfOk, Some};
 
 use crate::names::stays;
 use asn_headers::AsnTag;
 use asn_heads::{
-    Kind, Place, Reference, Scope, Target, TypeForm, head_named, kind_of, option_named, options_of,
-    reference_target,
+    Kind, Place, Reference, Scope, Target, TypeForm, head_named_within, kind_of, option_named,
+    options_of, reference_target,
 };
 use asn_index::Names;
 use asn_memory::{Mem, Text};
@@ -113,7 +113,7 @@ fn head_brings<'a>(head: Place<'a>, name: &str) -> Brought<'a>
 
 /// What a selection brings.
 ///
-/// Err: want of memory, also where the steps are used up.
+/// Err: want of memory.
 fn selection_brings<'a>(
     alloc: Global,
     names: &Names<'a>,
@@ -121,9 +121,9 @@ fn selection_brings<'a>(
     scope: &Scope<'a>,
     selection: &'a ChoiceSelectionType,
 ) -> Mem<Brought<'a>>
-    ensures { IfOk result (λ found. (m : ℕ) → shown_brought found ≡ selection_brings (meaning names.now.definitions.now (steps + m)) (shown scope.now) selection.now) }
+    ensures { IfOk result (λ found. shown_brought found ≡ selection_brings (meaning names.now.definitions.now steps) (shown scope.now) selection.now) }
 {
-    match head_named(alloc, names, steps, scope, &selection.choice_name)? {
+    match head_named_within(alloc, names, steps, scope, &selection.choice_name)? {
         None => Ok(Brought::Told(None)),
         Some(head) => Ok(head_brings(head, selection.selected_option.as_str())),
     }
@@ -132,9 +132,9 @@ fn selection_brings<'a>(
 /// What a type brings: a name that does not stay, and a selection, the tag of what they stand for, where it has one, else the one that
 /// its type brings; any other type none, since a class field has no room for a tag.
 ///
-/// Err: want of memory, also where the steps are used up.
+/// Err: want of memory.
 fn brings<'a>(alloc: Global, names: &Names<'a>, steps: usize, place: &Place<'a>) -> Mem<Brought<'a>>
-    ensures { IfOk result (λ found. (m : ℕ) → shown_brought found ≡ brings names.now.definitions.now (meaning names.now.definitions.now (steps + m)) (shown_place place.now).scope (kind_of (shown_place place.now))) }
+    ensures { IfOk result (λ found. shown_brought found ≡ brings names.now.definitions.now (meaning names.now.definitions.now steps) (shown_place place.now).scope (kind_of (shown_place place.now))) }
 {
     match kind_of(place.ty) {
         Kind::Reference(reference) => {
@@ -164,9 +164,9 @@ fn brings<'a>(alloc: Global, names: &Names<'a>, steps: usize, place: &Place<'a>)
 }
 
 /// The tag that a type brings to its place, within so many levels: of the tags of the templates and alternatives on its way the first.
-/// The outer None says that the levels do not reach, or that a name leads nowhere; the inner that there is no tag.
+/// The outer None says that the steps or levels do not reach, or that a name leads nowhere; the inner that there is no tag.
 ///
-/// Err: want of memory, also where the steps are used up.
+/// Err: want of memory.
 pub fn tag_brought<'a>(
     alloc: Global,
     names: &Names<'a>,
@@ -174,7 +174,7 @@ pub fn tag_brought<'a>(
     levels: usize,
     place: &Place<'a>,
 ) -> Mem<Option<Option<AsnTag>>>
-    ensures { IfOk result (λ found. (m : ℕ) → found ≡ (instances names.now.definitions.now (steps + m) levels).of_tag (shown_place place.now).scope (shown_place place.now).ty) }
+    ensures { IfOk result (λ found. found ≡ (instances names.now.definitions.now steps levels).of_tag (shown_place place.now).scope (shown_place place.now).ty) }
 {
     let mut at = place.copy(alloc)?;
     for _left in (0..levels).rev() {
@@ -197,7 +197,7 @@ pub fn placed_tag<'a>(
     tag: Option<AsnTag>,
     place: &Place<'a>,
 ) -> Mem<Option<Option<AsnTag>>>
-    ensures { IfOk result (λ found. (m : ℕ) → found ≡ placed_tag chosen names.now.definitions.now (meaning names.now.definitions.now (steps + m)) (instances names.now.definitions.now (steps + m) levels) (shown_place place.now).scope tag (shown_place place.now).ty) }
+    ensures { IfOk result (λ found. found ≡ placed_tag chosen names.now.definitions.now (meaning names.now.definitions.now steps) (instances names.now.definitions.now steps levels) (shown_place place.now).scope tag (shown_place place.now).ty) }
 {
     match tag {
         Some(tag) => Ok(Some(Some(tag))),

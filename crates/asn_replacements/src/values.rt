@@ -5,24 +5,26 @@ ghost use Rattle.asn_heads.specs.Places.{shown_place};
 ghost use Rattle.asn_heads.specs.Scopes.{shown};
 ghost use Rattle.asn_heads.specs.Written.{shown_written};
 ghost use Rattle.asn_instance.specs.Instance.{is_empty};
-ghost use Rattle.asn_instance.specs.Literals.{default_under, default_written, is_item_name, is_literal, is_unbound_name, single_written, value_written};
+ghost use Rattle.asn_instance.specs.Literals.{default_under, default_written, is_item_name, is_literal_under, is_unbound, single_written, value_written};
 ghost use Rattle.asn_instance.specs.Subjects.{ends_read, values_read};
 ghost use Rattle.asn_meaning.specs.Answers.{once};
 ghost use Rattle.asn_meaning.specs.Judge.{meaning};
 ghost use Rattle.asn_replacements.specs.Subjects.{shown_subject};
 ghost use Rattle.asn_replacements.specs.Values.{is_outside, shown_placed};
 ghost use Rattle.std.specs.Option.{option_map};
-ghost use Rattle.std.specs.Prelude.{◌≡◌, ◌+◌, ◌||◌, ℕ, IfOk, None};
+ghost use Rattle.std.specs.Prelude.{◌≡◌, ◌||◌, IfOk, None};
 
 use crate::denoted::{denoted_written, tree_written};
-use crate::literals::{is_dummy, is_item_name, is_literal, is_own_head, is_unbound_name};
+use crate::literals::{is_dummy, is_item_name, is_literal_under, is_own_head};
+use crate::names::are_free;
 use crate::subjects::{Subject, ends_read, values_read};
-use asn_denotes::is_all;
-use asn_heads::{Kind, Place, Scope, ValueForm, Written, as_written, head, kind_of};
+use asn_denotes::is_all_within;
+use asn_heads::{Kind, Place, Scope, ValueForm, Written, as_written, head_within, kind_of};
 use asn_index::Names;
 use asn_memory::{List, Mem, Text};
+use asn_references::value_references;
 use asn_shapes::Answer;
-use asn_tree::{ASN1Value, ParameterizationArgument};
+use asn_tree::{ASN1Value, ObjectIdentifierArc, ParameterizationArgument, RealValue};
 use std::alloc::Global;
 
 /// A value that takes the place of another: the value itself, or one that no tree holds.
@@ -33,8 +35,13 @@ pub enum PlacedValue<'a> {
     Null,
     Truth(bool),
     Number(i128),
+    Real(RealValue),
     Bits(List<bool>),
     Octets(List<u8>),
+    /// The text of a character string or a time.
+    Text(Text),
+    /// The arcs of an object identifier.
+    Arcs(List<ObjectIdentifierArc>),
     /// The name of an item.
     Item(&'a Text),
 }
@@ -60,11 +67,12 @@ pub fn is_outside(scope: &Scope<'_>) -> bool
     }
 }
 
-/// Whether a value stays that is read under a head: a literal, or the name of an item of the head, which is no dummy.
+/// Whether a value stays that is read under a head: a literal, arcs under OBJECT IDENTIFIER, or the name of an item of the head, which is no
+/// dummy.
 fn stays_under(scope: &Scope<'_>, kind: Kind<'_>, written: Written<'_>) -> bool
-    ensures { result ≡ (is_literal (shown_written written.entry) || is_item_name (shown scope.now) (shown_kind kind.entry) (shown_written written.entry)) }
+    ensures { result ≡ (is_literal_under (shown_kind kind.entry) (shown_written written.entry) || is_item_name (shown scope.now) (shown_kind kind.entry) (shown_written written.entry)) }
 {
-    is_literal(written) || is_item_name(scope, kind, written)
+    is_literal_under(kind, written) || is_item_name(scope, kind, written)
 }
 
 /// What takes the place of a value, as a literal or an item's name.
@@ -78,7 +86,7 @@ fn value_written<'a>(
     value: &'a ASN1Value,
     place: &Place<'a>,
 ) -> Mem<Option<PlacedValue<'a>>>
-    ensures { IfOk result (λ found. (m : ℕ) → option_map shown_placed found ≡ value_written (meaning names.now.definitions.now (steps + m)) (shown scope.now) value.now (shown_place place.now)) }
+    ensures { IfOk result (λ found. option_map shown_placed found ≡ value_written (meaning names.now.definitions.now steps) (shown scope.now) value.now (shown_place place.now)) }
 {
     let kind = kind_of(place.ty);
     if !is_own_head(kind) {
@@ -102,9 +110,9 @@ fn single_written<'a>(
     value: &'a ASN1Value,
     place: &Place<'a>,
 ) -> Mem<Option<PlacedValue<'a>>>
-    ensures { IfOk result (λ found. (m : ℕ) → option_map shown_placed found ≡ single_written (meaning names.now.definitions.now (steps + m)) (shown scope.now) value.now (shown_place place.now)) }
+    ensures { IfOk result (λ found. option_map shown_placed found ≡ single_written (meaning names.now.definitions.now steps) (shown scope.now) value.now (shown_place place.now)) }
 {
-    match is_all(alloc, names, steps, scope, ValueForm::Written(value), place)? {
+    match is_all_within(alloc, names, steps, scope, ValueForm::Written(value), place)? {
         Answer::Yes => Ok(Some(PlacedValue::All)),
         Answer::No => {
             let found = value_written(alloc, names, steps, scope, value, place)?;
@@ -119,7 +127,7 @@ fn single_written<'a>(
 
 /// What takes the place of a single value on a subject; one that stands for ALL becomes ALL (X.680 51.2).
 ///
-/// None: there is neither a literal nor an item for it. Err: want of memory, also where the steps are used up.
+/// None: there is neither a literal nor an item for it, or it is not known within these steps. Err: want of memory.
 pub fn single_value<'a>(
     alloc: Global,
     names: &Names<'a>,
@@ -128,7 +136,7 @@ pub fn single_value<'a>(
     value: &'a ASN1Value,
     subject: Subject<'_, 'a>,
 ) -> Mem<Option<PlacedValue<'a>>>
-    ensures { IfOk result (λ found. (m : ℕ) → option_map shown_placed found ≡ single_written (meaning names.now.definitions.now (steps + m)) (shown scope.now) value.now (values_read (shown_subject subject.entry))) }
+    ensures { IfOk result (λ found. option_map shown_placed found ≡ single_written (meaning names.now.definitions.now steps) (shown scope.now) value.now (values_read (shown_subject subject.entry))) }
 {
     let place = values_read(alloc, subject)?;
     let found = single_written(alloc, names, steps, scope, value, &place)?;
@@ -146,18 +154,21 @@ pub fn end_value<'a>(
     value: &'a ASN1Value,
     subject: Subject<'_, 'a>,
 ) -> Mem<Option<PlacedValue<'a>>>
-    ensures { IfOk result (λ found. (m : ℕ) → option_map shown_placed found ≡ value_written (meaning names.now.definitions.now (steps + m)) (shown scope.now) value.now (ends_read (shown_subject subject.entry))) }
+    ensures { IfOk result (λ found. option_map shown_placed found ≡ value_written (meaning names.now.definitions.now steps) (shown scope.now) value.now (ends_read (shown_subject subject.entry))) }
 {
     let place = ends_read(subject);
     let found = value_written(alloc, names, steps, scope, value, &place)?;
     Ok(found)
 }
 
-/// Whether a default stays that is read under bindings: a literal, or a plain name that no binding has.
-fn default_stays(scope: &Scope<'_>, written: Written<'_>) -> bool
-    ensures { result ≡ (is_literal (shown_written written.entry) || is_unbound_name (shown scope.now) (shown_written written.entry)) }
+/// Whether no name in a value, at any depth, is one of the scope's dummies.
+///
+/// Err: want of memory.
+fn is_unbound(alloc: Global, scope: &Scope<'_>, value: &ASN1Value) -> Mem<bool>
+    ensures { IfOk result (λ unbound. unbound ≡ is_unbound (shown scope.now) value.now) }
 {
-    is_literal(written) || is_unbound_name(scope, written)
+    let names = value_references(alloc, value)?;
+    Ok(are_free(scope, names.as_slice()))
 }
 
 /// What takes the place of a default under bindings, by the head of the member's type.
@@ -171,9 +182,9 @@ fn default_under<'a>(
     value: &'a ASN1Value,
     head: &Place<'a>,
 ) -> Mem<Option<PlacedValue<'a>>>
-    ensures { IfOk result (λ found. (m : ℕ) → option_map shown_placed found ≡ default_under (meaning names.now.definitions.now (steps + m)) (shown scope.now) value.now (shown_place head.now)) }
+    ensures { IfOk result (λ found. option_map shown_placed found ≡ default_under (meaning names.now.definitions.now steps) (shown scope.now) value.now (shown_place head.now)) }
 {
-    if default_stays(scope, as_written(value)) {
+    if is_unbound(alloc, scope, value)? {
         return Ok(Some(PlacedValue::Same(value)));
     }
     if is_dummy(scope, as_written(value)) {
@@ -194,9 +205,9 @@ fn default_bound<'a>(
     value: &'a ASN1Value,
     place: &Place<'a>,
 ) -> Mem<Option<PlacedValue<'a>>>
-    ensures { IfOk result (λ found. (m : ℕ) → option_map shown_placed found ≡ once None ((meaning names.now.definitions.now (steps + m)).head (shown_place place.now)) (default_under (meaning names.now.definitions.now (steps + m)) (shown scope.now) value.now)) }
+    ensures { IfOk result (λ found. option_map shown_placed found ≡ once None ((meaning names.now.definitions.now steps).head (shown_place place.now)) (default_under (meaning names.now.definitions.now steps) (shown scope.now) value.now)) }
 {
-    match head(alloc, names, steps, place)? {
+    match head_within(alloc, names, steps, place)? {
         None => Ok(None),
         Some(head) => {
             let found = default_under(alloc, names, steps, scope, value, &head)?;
@@ -217,7 +228,7 @@ pub fn default_value<'a>(
     value: &'a ASN1Value,
     place: &Place<'a>,
 ) -> Mem<Option<PlacedValue<'a>>>
-    ensures { IfOk result (λ found. (m : ℕ) → option_map shown_placed found ≡ default_written (meaning names.now.definitions.now (steps + m)) (shown scope.now) value.now (shown_place place.now)) }
+    ensures { IfOk result (λ found. option_map shown_placed found ≡ default_written (meaning names.now.definitions.now steps) (shown scope.now) value.now (shown_place place.now)) }
 {
     if is_outside(scope) {
         return Ok(Some(PlacedValue::Same(value)));

@@ -123,6 +123,7 @@ fn write_open<'a>(
     let limits = Limits {
         steps: STEPS,
         levels: LEVELS,
+        in_circles: LEVELS,
         room: ROOM,
     };
     out.push_str("open")?;

@@ -1,7 +1,8 @@
 -- Trees and their layers, put together from parts that are made or not.
 use Rattle.std.specs.Prelude.{ℕ, Bool, List, [], ◌∷◌, ◌++◌, Option, Some, None}
 use Rattle.asn_tree.specs.declared.constraints.Constraint.{Constraint, Constraint-F, roll-Constraint}
-use Rattle.asn_tree.specs.declared.constraints.ContentConstraint.{ContentConstraint}
+use Rattle.asn_tree.specs.Layers.{ContentLayer}
+use Rattle.asn_tree.specs.declared.constraints.ContentConstraint.{ContentConstraint, ContentConstraint-F}
 use Rattle.asn_tree.specs.declared.constraints.ElementOrSetOperation.{ElementOrSetOperation, ElementOrSetOperation-F}
 use Rattle.asn_tree.specs.declared.constraints.SetOperation.{roll-SetOperation}
 use Rattle.asn_tree.specs.declared.constraints.SubtypeElement.{SubtypeElement, SubtypeElement-F}
@@ -78,6 +79,17 @@ content_made y = once None y (λ y. Some (roll-Constraint (Constraint-F.ContentC
 
 abbrev pub listed_made : ListedLayer → Option (List Constraint) → Option ListedLayer
 listed_made c cs = once None cs (λ cs. Some (record c { constraints = cs }))
+
+-- ---- contents
+
+abbrev pub containing_made : Option ASN1Type → Option ContentLayer
+containing_made ty = once None ty (λ uy. Some (ContentConstraint-F.Containing uy))
+
+abbrev pub encoded_made : Option ASN1Value → Option ContentLayer
+encoded_made rules = once None rules (λ r. Some (ContentConstraint-F.EncodedBy r))
+
+abbrev pub containing_encoded_made : ASN1Type → Option ASN1Value → Option ContentLayer
+containing_encoded_made uy rules = once None rules (λ r. Some (ContentConstraint-F.ContainingEncodedBy uy r))
 
 -- ---- elements
 

@@ -11,15 +11,17 @@ ghost use Rattle.asn_replacements.specs.Subjects.{shown_subject};
 ghost use Rattle.asn_tree.specs.declared.constraints.Constraint.{out-Constraint};
 ghost use Rattle.asn_tree.specs.declared.constraints.SubtypeElement.{out-SubtypeElement};
 ghost use Rattle.std.specs.Option.{option_map};
-ghost use Rattle.std.specs.Prelude.{◌≡◌, IfOk, ℕ, ◌+◌};
+ghost use Rattle.std.specs.Prelude.{◌≡◌, IfOk};
 
-use crate::leaves::content_constraint;
+use crate::linking::contents::content_instance;
 use crate::linking::elements::of_set;
 use crate::parts::part_of;
 use crate::room::Room;
 use crate::sets::table_constraint;
-use crate::trees::{component, inner_element, listed_component, subtype_constraint};
-use asn_heads::{Place, Scope, head};
+use crate::trees::{
+    component, content_constraint, inner_element, listed_component, subtype_constraint,
+};
+use asn_heads::{Place, Scope, head_within};
 use asn_index::Names;
 use asn_memory::{List, Mem};
 use asn_replacements::Subject;
@@ -40,12 +42,12 @@ pub(super) fn of_constraints<'a>(
     place: &Place<'a>,
     constraints: &'a [Constraint],
 ) -> Mem<Option<List<Constraint>>>
-    ensures { IfOk result (λ made. (m : ℕ) → made ≡ of_constraints chosen names.now.definitions.now (meaning names.now.definitions.now (steps + m)) (instances names.now.definitions.now (steps + m) levels) (shown scope.now) (shown_place place.now) constraints.now) }
+    ensures { IfOk result (λ made. made ≡ of_constraints chosen names.now.definitions.now (meaning names.now.definitions.now steps) (instances names.now.definitions.now steps levels) (shown scope.now) (shown_place place.now) constraints.now) }
 {
     if constraints.is_empty() {
         return Ok(Some(List::new(alloc)));
     }
-    let Some(head) = head(alloc, names, steps, place)? else {
+    let Some(head) = head_within(alloc, names, steps, place)? else {
         return Ok(None);
     };
     let made = constraints_on(alloc, names, steps, levels, room, scope, &head, constraints)?;
@@ -65,7 +67,7 @@ fn constraints_on<'a>(
     head: &Place<'a>,
     constraints: &'a [Constraint],
 ) -> Mem<Option<List<Constraint>>>
-    ensures { IfOk result (λ made. (m : ℕ) → made ≡ gathered (constraint_on names.now.definitions.now (steps + m) levels (shown scope.now) (shown_place head.now)) constraints.now) }
+    ensures { IfOk result (λ made. made ≡ gathered (constraint_on names.now.definitions.now steps levels (shown scope.now) (shown_place head.now)) constraints.now) }
 {
     let subject = Subject::OnValues(head);
     let mut made = List::new(alloc);
@@ -93,7 +95,7 @@ fn constraint_instance<'a>(
     subject: Subject<'_, 'a>,
     constraint: &'a Constraint,
 ) -> Mem<Option<List<Constraint>>>
-    ensures { IfOk result (λ made. (m : ℕ) → made ≡ constraint_instance chosen names.now.definitions.now (meaning names.now.definitions.now (steps + m)) (instances names.now.definitions.now (steps + m) levels) (shown scope.now) (shown_subject subject.entry) (out-Constraint constraint.now)) }
+    ensures { IfOk result (λ made. made ≡ constraint_instance chosen names.now.definitions.now (meaning names.now.definitions.now steps) (instances names.now.definitions.now steps levels) (shown scope.now) (shown_subject subject.entry) (out-Constraint constraint.now)) }
 {
     room.take()?;
     match constraint {
@@ -108,7 +110,8 @@ fn constraint_instance<'a>(
         }
         Constraint::Parameter(_) => Ok(Some(List::new(alloc))),
         Constraint::ContentConstraint(x) => {
-            let made = content_constraint(alloc, scope, x)?;
+            let content = content_instance(alloc, names, steps, levels, room, scope, x)?;
+            let made = content_constraint(alloc, content)?;
             Ok(made)
         }
     }
@@ -126,7 +129,7 @@ pub(super) fn component_instance<'a>(
     subject: Subject<'_, 'a>,
     constraints: &'a [Constraint],
 ) -> Mem<Option<SubtypeElement>>
-    ensures { IfOk result (λ made. (m : ℕ) → option_map out-SubtypeElement made ≡ component_instance chosen names.now.definitions.now (meaning names.now.definitions.now (steps + m)) (instances names.now.definitions.now (steps + m) levels) (shown scope.now) (shown_subject subject.entry) constraints.now) }
+    ensures { IfOk result (λ made. option_map out-SubtypeElement made ≡ component_instance chosen names.now.definitions.now (meaning names.now.definitions.now steps) (instances names.now.definitions.now steps levels) (shown scope.now) (shown_subject subject.entry) constraints.now) }
 {
     match subject {
         Subject::OnValues(head) => {
@@ -149,7 +152,7 @@ fn component_on<'a>(
     head: &Place<'a>,
     constraints: &'a [Constraint],
 ) -> Mem<Option<SubtypeElement>>
-    ensures { IfOk result (λ made. (m : ℕ) → option_map out-SubtypeElement made ≡ component_instance chosen names.now.definitions.now (meaning names.now.definitions.now (steps + m)) (instances names.now.definitions.now (steps + m) levels) (shown scope.now) (OnValues (shown_place head.now)) constraints.now) }
+    ensures { IfOk result (λ made. option_map out-SubtypeElement made ≡ component_instance chosen names.now.definitions.now (meaning names.now.definitions.now steps) (instances names.now.definitions.now steps levels) (shown scope.now) (OnValues (shown_place head.now)) constraints.now) }
 {
     let Some(element) = element_place(alloc, head)? else {
         return Ok(None);
@@ -179,7 +182,7 @@ pub(super) fn inner_instance<'a>(
     subject: Subject<'_, 'a>,
     inner: &'a InnerTypeConstraint,
 ) -> Mem<Option<SubtypeElement>>
-    ensures { IfOk result (λ made. (m : ℕ) → option_map out-SubtypeElement made ≡ inner_instance chosen names.now.definitions.now (meaning names.now.definitions.now (steps + m)) (instances names.now.definitions.now (steps + m) levels) (shown scope.now) (shown_subject subject.entry) inner.now) }
+    ensures { IfOk result (λ made. option_map out-SubtypeElement made ≡ inner_instance chosen names.now.definitions.now (meaning names.now.definitions.now steps) (instances names.now.definitions.now steps levels) (shown scope.now) (shown_subject subject.entry) inner.now) }
 {
     match subject {
         Subject::OnValues(head) => {
@@ -202,7 +205,7 @@ fn inner_on<'a>(
     head: &Place<'a>,
     inner: &'a InnerTypeConstraint,
 ) -> Mem<Option<SubtypeElement>>
-    ensures { IfOk result (λ made. (m : ℕ) → option_map out-SubtypeElement made ≡ inner_instance chosen names.now.definitions.now (meaning names.now.definitions.now (steps + m)) (instances names.now.definitions.now (steps + m) levels) (shown scope.now) (OnValues (shown_place head.now)) inner.now) }
+    ensures { IfOk result (λ made. option_map out-SubtypeElement made ≡ inner_instance chosen names.now.definitions.now (meaning names.now.definitions.now steps) (instances names.now.definitions.now steps levels) (shown scope.now) (OnValues (shown_place head.now)) inner.now) }
 {
     let written = inner.constraints.as_slice();
     let made = listed_instances(alloc, names, steps, levels, room, scope, head, written)?;
@@ -222,7 +225,7 @@ fn listed_instances<'a>(
     head: &Place<'a>,
     components: &'a [ConstrainedComponent],
 ) -> Mem<Option<List<ConstrainedComponent>>>
-    ensures { IfOk result (λ made. (m : ℕ) → made ≡ traversed (listed_on names.now.definitions.now (steps + m) levels (shown scope.now) (shown_place head.now)) components.now) }
+    ensures { IfOk result (λ made. made ≡ traversed (listed_on names.now.definitions.now steps levels (shown scope.now) (shown_place head.now)) components.now) }
 {
     let mut made = List::new(alloc);
     for listed in components {
@@ -247,7 +250,7 @@ fn listed_instance<'a>(
     head: &Place<'a>,
     listed: &'a ConstrainedComponent,
 ) -> Mem<Option<ConstrainedComponent>>
-    ensures { IfOk result (λ made. (m : ℕ) → made ≡ listed_instance chosen names.now.definitions.now (meaning names.now.definitions.now (steps + m)) (instances names.now.definitions.now (steps + m) levels) (shown scope.now) (shown_place head.now) listed.now) }
+    ensures { IfOk result (λ made. made ≡ listed_instance chosen names.now.definitions.now (meaning names.now.definitions.now steps) (instances names.now.definitions.now steps levels) (shown scope.now) (shown_place head.now) listed.now) }
 {
     room.take()?;
     let Some(part) = part_of(alloc, names, steps, levels, head, listed)? else {

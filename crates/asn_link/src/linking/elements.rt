@@ -13,7 +13,7 @@ ghost use Rattle.asn_tree.specs.declared.constraints.ElementOrSetOperation.{out-
 ghost use Rattle.asn_tree.specs.declared.constraints.SetOperation.{out-SetOperation};
 ghost use Rattle.asn_tree.specs.declared.constraints.SubtypeElement.{out-SubtypeElement};
 ghost use Rattle.std.specs.Option.{option_map};
-ghost use Rattle.std.specs.Prelude.{◌≡◌, IfOk, ℕ, ◌+◌, None};
+ghost use Rattle.std.specs.Prelude.{◌≡◌, IfOk, None};
 
 use crate::leaves::{pattern_element, settings_element, user_defined_element, whole_number};
 use crate::linking::constraints::{component_instance, inner_instance};
@@ -43,7 +43,7 @@ pub(super) fn of_set<'a>(
     subject: Subject<'_, 'a>,
     set: &'a ElementOrSetOperation,
 ) -> Mem<Option<ElementOrSetOperation>>
-    ensures { IfOk result (λ made. (m : ℕ) → made ≡ (instances names.now.definitions.now (steps + m) levels).of_set (shown scope.now) (shown_subject subject.entry) set.now) }
+    ensures { IfOk result (λ made. made ≡ (instances names.now.definitions.now steps levels).of_set (shown scope.now) (shown_subject subject.entry) set.now) }
 {
     room.take()?;
     if levels == 0 {
@@ -65,7 +65,7 @@ fn set_instance<'a>(
     subject: Subject<'_, 'a>,
     set: &'a ElementOrSetOperation,
 ) -> Mem<Option<ElementOrSetOperation>>
-    ensures { IfOk result (λ made. (m : ℕ) → option_map out-ElementOrSetOperation made ≡ set_instance chosen names.now.definitions.now (meaning names.now.definitions.now (steps + m)) (instances names.now.definitions.now (steps + m) levels) (shown scope.now) (shown_subject subject.entry) (out-ElementOrSetOperation set.now)) }
+    ensures { IfOk result (λ made. option_map out-ElementOrSetOperation made ≡ set_instance chosen names.now.definitions.now (meaning names.now.definitions.now steps) (instances names.now.definitions.now steps levels) (shown scope.now) (shown_subject subject.entry) (out-ElementOrSetOperation set.now)) }
 {
     match set {
         ElementOrSetOperation::Element(element) => {
@@ -91,7 +91,7 @@ fn operation_instance<'a>(
     subject: Subject<'_, 'a>,
     operation: &'a SetOperation,
 ) -> Mem<Option<SetOperation>>
-    ensures { IfOk result (λ made. (m : ℕ) → option_map out-SetOperation made ≡ operation_instance chosen names.now.definitions.now (meaning names.now.definitions.now (steps + m)) (instances names.now.definitions.now (steps + m) levels) (shown scope.now) (shown_subject subject.entry) (out-SetOperation operation.now)) }
+    ensures { IfOk result (λ made. option_map out-SetOperation made ≡ operation_instance chosen names.now.definitions.now (meaning names.now.definitions.now steps) (instances names.now.definitions.now steps levels) (shown scope.now) (shown_subject subject.entry) (out-SetOperation operation.now)) }
 {
     let written = &operation.base;
     let Some(base) = of_element(alloc, names, steps, levels, room, scope, subject, written)? else {
@@ -116,7 +116,7 @@ fn operation_behind<'a>(
     operation: &'a SetOperation,
     base: SubtypeElement,
 ) -> Mem<Option<SetOperation>>
-    ensures { IfOk result (λ made. (m : ℕ) → option_map out-SetOperation made ≡ operation_behind names.now.definitions.now (steps + m) levels (shown scope.now) (shown_subject subject.entry) (out-SetOperation operation.now) base) }
+    ensures { IfOk result (λ made. option_map out-SetOperation made ≡ operation_behind names.now.definitions.now steps levels (shown scope.now) (shown_subject subject.entry) (out-SetOperation operation.now) base) }
 {
     let written = operation.operant.get();
     let operant = of_set(alloc, names, steps, levels, room, scope, subject, written)?;
@@ -137,7 +137,7 @@ fn of_element<'a>(
     subject: Subject<'_, 'a>,
     element: &'a SubtypeElement,
 ) -> Mem<Option<SubtypeElement>>
-    ensures { IfOk result (λ made. (m : ℕ) → made ≡ (instances names.now.definitions.now (steps + m) levels).of_element (shown scope.now) (shown_subject subject.entry) element.now) }
+    ensures { IfOk result (λ made. made ≡ (instances names.now.definitions.now steps levels).of_element (shown scope.now) (shown_subject subject.entry) element.now) }
 {
     room.take()?;
     if levels == 0 {
@@ -169,7 +169,7 @@ fn element_instance<'a>(
     subject: Subject<'_, 'a>,
     element: &'a SubtypeElement,
 ) -> Mem<Option<SubtypeElement>>
-    ensures { IfOk result (λ made. (m : ℕ) → option_map out-SubtypeElement made ≡ element_instance chosen names.now.definitions.now (meaning names.now.definitions.now (steps + m)) (instances names.now.definitions.now (steps + m) levels) (shown scope.now) (shown_subject subject.entry) (out-SubtypeElement element.now)) }
+    ensures { IfOk result (λ made. option_map out-SubtypeElement made ≡ element_instance chosen names.now.definitions.now (meaning names.now.definitions.now steps) (instances names.now.definitions.now steps levels) (shown scope.now) (shown_subject subject.entry) (out-SubtypeElement element.now)) }
 {
     match element {
         SubtypeElement::SingleValue { value, extensible } => {
@@ -253,7 +253,7 @@ fn alphabet_instance<'a>(
     scope: &Scope<'a>,
     set: &'a ElementOrSetOperation,
 ) -> Mem<Option<SubtypeElement>>
-    ensures { IfOk result (λ made. (m : ℕ) → option_map out-SubtypeElement made ≡ alphabet_made ((instances names.now.definitions.now (steps + m) levels).of_set (shown scope.now) OnCharacters set.now)) }
+    ensures { IfOk result (λ made. option_map out-SubtypeElement made ≡ alphabet_made ((instances names.now.definitions.now steps levels).of_set (shown scope.now) OnCharacters set.now)) }
 {
     let subject = Subject::OnCharacters;
     let made = of_set(alloc, names, steps, levels, room, scope, subject, set)?;
@@ -272,7 +272,7 @@ fn size_instance<'a>(
     scope: &Scope<'a>,
     set: &'a ElementOrSetOperation,
 ) -> Mem<Option<SubtypeElement>>
-    ensures { IfOk result (λ made. (m : ℕ) → option_map out-SubtypeElement made ≡ size_made ((instances names.now.definitions.now (steps + m) levels).of_set (shown scope.now) (OnValues (integer_named None)) set.now)) }
+    ensures { IfOk result (λ made. option_map out-SubtypeElement made ≡ size_made ((instances names.now.definitions.now steps levels).of_set (shown scope.now) (OnValues (integer_named None)) set.now)) }
 {
     let whole = whole_number();
     let subject = Subject::OnValues(&whole);

@@ -14,7 +14,7 @@ ghost use Rattle.asn_tree.specs.declared.types.SequenceOrSet.{out-SequenceOrSet}
 ghost use Rattle.asn_tree.specs.declared.types.SequenceOrSetMember.{out-SequenceOrSetMember};
 ghost use Rattle.asn_tree.specs.declared.types.SequenceOrSetOf.{out-SequenceOrSetOf};
 ghost use Rattle.std.specs.Option.{option_map};
-ghost use Rattle.std.specs.Prelude.{◌≡◌, IfOk, ℕ, ◌+◌, false};
+ghost use Rattle.std.specs.Prelude.{◌≡◌, IfOk, false};
 
 use crate::linking::constraints::of_constraints;
 use crate::linking::types::{instance_of_type, type_in};
@@ -24,7 +24,7 @@ use crate::trees::{choice, list, structure};
 use asn_heads::{Place, Scope, TypeForm};
 use asn_index::Names;
 use asn_memory::{List, Mem};
-use asn_shapes::{Member, struct_members};
+use asn_shapes::{Member, struct_members_within};
 use asn_tree::{
     ASN1Type, Choice, ChoiceOption, SequenceOrSet, SequenceOrSetMember, SequenceOrSetOf,
 };
@@ -41,9 +41,9 @@ pub(super) fn struct_instance<'a>(
     place: &Place<'a>,
     layer: &'a SequenceOrSet,
 ) -> Mem<Option<SequenceOrSet>>
-    ensures { IfOk result (λ made. (m : ℕ) → option_map out-SequenceOrSet made ≡ struct_instance chosen names.now.definitions.now (meaning names.now.definitions.now (steps + m)) (instances names.now.definitions.now (steps + m) levels) (shown_place place.now).scope (shown_place place.now).ty (out-SequenceOrSet layer.now)) }
+    ensures { IfOk result (λ made. option_map out-SequenceOrSet made ≡ struct_instance chosen names.now.definitions.now (meaning names.now.definitions.now steps) (instances names.now.definitions.now steps levels) (shown_place place.now).scope (shown_place place.now).ty (out-SequenceOrSet layer.now)) }
 {
-    let Some(members) = struct_members(alloc, names, steps, &place.scope, layer)? else {
+    let Some(members) = struct_members_within(alloc, names, steps, &place.scope, layer)? else {
         return Ok(None);
     };
     let members = members.as_slice();
@@ -63,7 +63,7 @@ fn struct_with<'a>(
     layer: &'a SequenceOrSet,
     members: &[Member<'a>],
 ) -> Mem<Option<SequenceOrSet>>
-    ensures { IfOk result (λ made. (m : ℕ) → option_map out-SequenceOrSet made ≡ struct_with names.now.definitions.now (steps + m) levels (shown_place place.now) (out-SequenceOrSet layer.now) (shown_members members.now)) }
+    ensures { IfOk result (λ made. option_map out-SequenceOrSet made ≡ struct_with names.now.definitions.now steps levels (shown_place place.now) (out-SequenceOrSet layer.now) (shown_members members.now)) }
 {
     let marker = risen(layer, members);
     let Some(made) = of_members(alloc, names, steps, levels, room, marker, members)? else {
@@ -88,7 +88,7 @@ fn of_members<'a>(
     marker: Option<usize>,
     members: &[Member<'a>],
 ) -> Mem<Option<List<SequenceOrSetMember>>>
-    ensures { IfOk result (λ made. (m : ℕ) → made ≡ of_members chosen names.now.definitions.now (meaning names.now.definitions.now (steps + m)) (instances names.now.definitions.now (steps + m) levels) marker 0 (shown_members members.now)) }
+    ensures { IfOk result (λ made. made ≡ of_members chosen names.now.definitions.now (meaning names.now.definitions.now steps) (instances names.now.definitions.now steps levels) marker 0 (shown_members members.now)) }
 {
     let mut made = List::new(alloc);
     for member in members {
@@ -113,7 +113,7 @@ fn member_at<'a>(
     number: usize,
     member: &Member<'a>,
 ) -> Mem<Option<SequenceOrSetMember>>
-    ensures { IfOk result (λ made. (m : ℕ) → option_map out-SequenceOrSetMember made ≡ member_at names.now.definitions.now (steps + m) levels marker number (shown_member member.now)) }
+    ensures { IfOk result (λ made. option_map out-SequenceOrSetMember made ≡ member_at names.now.definitions.now steps levels marker number (shown_member member.now)) }
 {
     if !is_divided(marker, number, member) {
         return Ok(None);
@@ -132,7 +132,7 @@ fn member_instance<'a>(
     room: &mut Room,
     member: &Member<'a>,
 ) -> Mem<Option<SequenceOrSetMember>>
-    ensures { IfOk result (λ made. (m : ℕ) → option_map out-SequenceOrSetMember made ≡ member_instance chosen names.now.definitions.now (meaning names.now.definitions.now (steps + m)) (instances names.now.definitions.now (steps + m) levels) (shown_member member.now).scope (shown_member member.now).written) }
+    ensures { IfOk result (λ made. option_map out-SequenceOrSetMember made ≡ member_instance chosen names.now.definitions.now (meaning names.now.definitions.now steps) (instances names.now.definitions.now steps levels) (shown_member member.now).scope (shown_member member.now).written) }
 {
     room.take()?;
     let place = member.place(alloc)?;
@@ -156,7 +156,7 @@ fn member_typed<'a>(
     member: &'a SequenceOrSetMember,
     ty: ASN1Type,
 ) -> Mem<Option<SequenceOrSetMember>>
-    ensures { IfOk result (λ made. (m : ℕ) → option_map out-SequenceOrSetMember made ≡ member_typed names.now.definitions.now (steps + m) levels (shown_place place.now) (out-SequenceOrSetMember member.now) ty) }
+    ensures { IfOk result (λ made. option_map out-SequenceOrSetMember made ≡ member_typed names.now.definitions.now steps levels (shown_place place.now) (out-SequenceOrSetMember member.now) ty) }
 {
     let scope = &place.scope;
     let own = member.constraints.as_slice();
@@ -176,7 +176,7 @@ pub(super) fn choice_instance<'a>(
     place: &Place<'a>,
     layer: &'a Choice,
 ) -> Mem<Option<ASN1Type>>
-    ensures { IfOk result (λ made. (m : ℕ) → option_map out-ASN1Type made ≡ type_instance chosen names.now.definitions.now (meaning names.now.definitions.now (steps + m)) (instances names.now.definitions.now (steps + m) levels) false (shown_place place.now).scope (shown_place place.now).ty (choice_layer layer.now)) }
+    ensures { IfOk result (λ made. option_map out-ASN1Type made ≡ type_instance chosen names.now.definitions.now (meaning names.now.definitions.now steps) (instances names.now.definitions.now steps levels) false (shown_place place.now).scope (shown_place place.now).ty (choice_layer layer.now)) }
 {
     let scope = &place.scope;
     let written = layer.options.as_slice();
@@ -200,7 +200,7 @@ fn of_options<'a>(
     scope: &Scope<'a>,
     options: &'a [ChoiceOption],
 ) -> Mem<Option<List<ChoiceOption>>>
-    ensures { IfOk result (λ made. (m : ℕ) → made ≡ of_options chosen names.now.definitions.now (meaning names.now.definitions.now (steps + m)) (instances names.now.definitions.now (steps + m) levels) (shown scope.now) options.now) }
+    ensures { IfOk result (λ made. made ≡ of_options chosen names.now.definitions.now (meaning names.now.definitions.now steps) (instances names.now.definitions.now steps levels) (shown scope.now) options.now) }
 {
     let mut made = List::new(alloc);
     for option in options {
@@ -223,7 +223,7 @@ fn option_instance<'a>(
     scope: &Scope<'a>,
     option: &'a ChoiceOption,
 ) -> Mem<Option<ChoiceOption>>
-    ensures { IfOk result (λ made. (m : ℕ) → option_map out-ChoiceOption made ≡ option_instance chosen names.now.definitions.now (meaning names.now.definitions.now (steps + m)) (instances names.now.definitions.now (steps + m) levels) (shown scope.now) (out-ChoiceOption option.now)) }
+    ensures { IfOk result (λ made. option_map out-ChoiceOption made ≡ option_instance chosen names.now.definitions.now (meaning names.now.definitions.now steps) (instances names.now.definitions.now steps levels) (shown scope.now) (out-ChoiceOption option.now)) }
 {
     room.take()?;
     let scope = scope.copy(alloc)?;
@@ -250,7 +250,7 @@ fn option_typed<'a>(
     option: &'a ChoiceOption,
     ty: ASN1Type,
 ) -> Mem<Option<ChoiceOption>>
-    ensures { IfOk result (λ made. (m : ℕ) → option_map out-ChoiceOption made ≡ option_typed names.now.definitions.now (steps + m) levels (shown_place place.now) (out-ChoiceOption option.now) ty) }
+    ensures { IfOk result (λ made. option_map out-ChoiceOption made ≡ option_typed names.now.definitions.now steps levels (shown_place place.now) (out-ChoiceOption option.now) ty) }
 {
     let scope = &place.scope;
     let own = option.constraints.as_slice();
@@ -270,7 +270,7 @@ pub(super) fn list_instance<'a>(
     place: &Place<'a>,
     layer: &'a SequenceOrSetOf,
 ) -> Mem<Option<SequenceOrSetOf>>
-    ensures { IfOk result (λ made. (m : ℕ) → option_map out-SequenceOrSetOf made ≡ list_instance chosen names.now.definitions.now (meaning names.now.definitions.now (steps + m)) (instances names.now.definitions.now (steps + m) levels) (shown_place place.now).scope (shown_place place.now).ty (out-SequenceOrSetOf layer.now)) }
+    ensures { IfOk result (λ made. option_map out-SequenceOrSetOf made ≡ list_instance chosen names.now.definitions.now (meaning names.now.definitions.now steps) (instances names.now.definitions.now steps levels) (shown_place place.now).scope (shown_place place.now).ty (out-SequenceOrSetOf layer.now)) }
 {
     let scope = &place.scope;
     let element = layer.element_type.get();

@@ -12,7 +12,7 @@ ghost use Rattle.asn_meaning.specs.Scopes.{Empty, bare};
 ghost use Rattle.asn_replacements.specs.Choosing.{chosen, instances};
 ghost use Rattle.asn_tree.specs.declared.types.ASN1Type.{out-ASN1Type};
 ghost use Rattle.std.specs.Option.{option_map};
-ghost use Rattle.std.specs.Prelude.{◌≡◌, IfOk, ℕ, ◌+◌, [], Some, false};
+ghost use Rattle.std.specs.Prelude.{◌≡◌, IfOk, [], Some, false};
 
 use crate::constrained::{constrained_copy, followed_by, has_no_place};
 use crate::leaves::{
@@ -24,7 +24,7 @@ use crate::room::Room;
 use crate::trees::{sequence, sequence_of, set, set_of};
 use asn_heads::{
     FieldType, Place, Reference, Scope, Target, TypeForm, class_field_type, constraints_in,
-    reference_target, selection_target,
+    reference_target, selection_target_within,
 };
 use asn_index::Names;
 use asn_memory::{List, Mem};
@@ -35,8 +35,8 @@ use std::alloc::Global;
 /// The instance of a type in its scope, within so many levels: what linking makes of it. `down` asks for the type down to the head:
 /// there a plain name is followed too.
 ///
-/// None: there is no instance within the levels: a name leads nowhere, a part that a constraint names is missing, or a value has no
-/// literal. Err: want of memory, also where the steps or the room are used up.
+/// None: there is no instance within these steps and levels: they are too few, a name leads nowhere, a part that a constraint names is
+/// missing, or a value has no literal. Err: want of memory, also where the room is used up.
 #[cycle(linking)]
 #[tactic(auto, using(crate::proofs::Levels::no_type))]
 pub fn instance_of_type<'a>(
@@ -48,7 +48,7 @@ pub fn instance_of_type<'a>(
     down: bool,
     place: &Place<'a>,
 ) -> Mem<Option<ASN1Type>>
-    ensures { IfOk result (λ made. (m : ℕ) → made ≡ (instances names.now.definitions.now (steps + m) levels).of_type down (shown_place place.now).scope (shown_place place.now).ty) }
+    ensures { IfOk result (λ made. made ≡ (instances names.now.definitions.now steps levels).of_type down (shown_place place.now).scope (shown_place place.now).ty) }
 {
     room.take()?;
     if levels == 0 {
@@ -70,7 +70,7 @@ pub(super) fn type_in<'a>(
     scope: &Scope<'a>,
     ty: &'a ASN1Type,
 ) -> Mem<Option<ASN1Type>>
-    ensures { IfOk result (λ made. (m : ℕ) → made ≡ (instances names.now.definitions.now (steps + m) levels).of_type down (shown scope.now) ty.now) }
+    ensures { IfOk result (λ made. made ≡ (instances names.now.definitions.now steps levels).of_type down (shown scope.now) ty.now) }
 {
     let scope = scope.copy(alloc)?;
     let place = Place {
@@ -92,7 +92,7 @@ fn type_instance<'a>(
     down: bool,
     place: &Place<'a>,
 ) -> Mem<Option<ASN1Type>>
-    ensures { IfOk result (λ made. (m : ℕ) → option_map out-ASN1Type made ≡ type_instance chosen names.now.definitions.now (meaning names.now.definitions.now (steps + m)) (instances names.now.definitions.now (steps + m) levels) down (shown_place place.now).scope (shown_place place.now).ty (out-ASN1Type (shown_place place.now).ty)) }
+    ensures { IfOk result (λ made. option_map out-ASN1Type made ≡ type_instance chosen names.now.definitions.now (meaning names.now.definitions.now steps) (instances names.now.definitions.now steps levels) down (shown_place place.now).scope (shown_place place.now).ty (out-ASN1Type (shown_place place.now).ty)) }
 {
     match place.ty {
         TypeForm::Written(ty) => {
@@ -127,7 +127,7 @@ fn written_instance<'a>(
     place: &Place<'a>,
     ty: &'a ASN1Type,
 ) -> Mem<Option<ASN1Type>>
-    ensures { IfOk result (λ made. (m : ℕ) → option_map out-ASN1Type made ≡ type_instance chosen names.now.definitions.now (meaning names.now.definitions.now (steps + m)) (instances names.now.definitions.now (steps + m) levels) down (shown_place place.now).scope (shown_place place.now).ty (out-ASN1Type ty.now)) }
+    ensures { IfOk result (λ made. option_map out-ASN1Type made ≡ type_instance chosen names.now.definitions.now (meaning names.now.definitions.now steps) (instances names.now.definitions.now steps levels) down (shown_place place.now).scope (shown_place place.now).ty (out-ASN1Type ty.now)) }
 {
     match ty {
         ASN1Type::ElsewhereDeclaredType(x) => {
@@ -196,7 +196,7 @@ fn constrained<'a>(
     place: &Place<'a>,
     ty: &'a ASN1Type,
 ) -> Mem<Option<ASN1Type>>
-    ensures { IfOk result (λ made. (m : ℕ) → option_map out-ASN1Type made ≡ constrained chosen names.now.definitions.now (meaning names.now.definitions.now (steps + m)) (instances names.now.definitions.now (steps + m) levels) (shown_place place.now).scope (shown_place place.now).ty (out-ASN1Type ty.now)) }
+    ensures { IfOk result (λ made. option_map out-ASN1Type made ≡ constrained chosen names.now.definitions.now (meaning names.now.definitions.now steps) (instances names.now.definitions.now steps levels) (shown_place place.now).scope (shown_place place.now).ty (out-ASN1Type ty.now)) }
 {
     let own = constraints_in(TypeForm::Written(ty));
     let constraints = of_constraints(alloc, names, steps, levels, room, &place.scope, place, own)?;
@@ -216,7 +216,7 @@ fn reference_instance<'a>(
     place: &Place<'a>,
     reference: Reference<'a>,
 ) -> Mem<Option<ASN1Type>>
-    ensures { IfOk result (λ made. (m : ℕ) → option_map out-ASN1Type made ≡ type_instance chosen names.now.definitions.now (meaning names.now.definitions.now (steps + m)) (instances names.now.definitions.now (steps + m) levels) down (shown_place place.now).scope (shown_place place.now).ty (reference_layer (shown_reference reference.entry))) }
+    ensures { IfOk result (λ made. option_map out-ASN1Type made ≡ type_instance chosen names.now.definitions.now (meaning names.now.definitions.now steps) (instances names.now.definitions.now steps levels) down (shown_place place.now).scope (shown_place place.now).ty (reference_layer (shown_reference reference.entry))) }
 {
     if stays(down, &place.scope, reference) {
         let made = name_kept(alloc, names, steps, levels, room, place, reference)?;
@@ -238,7 +238,7 @@ fn name_kept<'a>(
     place: &Place<'a>,
     reference: Reference<'a>,
 ) -> Mem<Option<ASN1Type>>
-    ensures { IfOk result (λ made. (m : ℕ) → option_map out-ASN1Type made ≡ constrained chosen names.now.definitions.now (meaning names.now.definitions.now (steps + m)) (instances names.now.definitions.now (steps + m) levels) (shown_place place.now).scope (shown_place place.now).ty (reference_layer (shown_reference reference.entry))) }
+    ensures { IfOk result (λ made. option_map out-ASN1Type made ≡ constrained chosen names.now.definitions.now (meaning names.now.definitions.now steps) (instances names.now.definitions.now steps levels) (shown_place place.now).scope (shown_place place.now).ty (reference_layer (shown_reference reference.entry))) }
 {
     let own = constraints_behind(reference);
     let constraints = of_constraints(alloc, names, steps, levels, room, &place.scope, place, own)?;
@@ -258,7 +258,7 @@ fn name_followed<'a>(
     place: &Place<'a>,
     reference: Reference<'a>,
 ) -> Mem<Option<ASN1Type>>
-    ensures { IfOk result (λ made. (m : ℕ) → option_map out-ASN1Type made ≡ replaced chosen names.now.definitions.now (meaning names.now.definitions.now (steps + m)) (instances names.now.definitions.now (steps + m) levels) down (shown_place place.now).scope (shown_place place.now).ty (shown_reference reference.entry).constraints (reference_target names.now.definitions.now (shown_place place.now).scope (shown_reference reference.entry))) }
+    ensures { IfOk result (λ made. option_map out-ASN1Type made ≡ replaced chosen names.now.definitions.now (meaning names.now.definitions.now steps) (instances names.now.definitions.now steps levels) down (shown_place place.now).scope (shown_place place.now).ty (shown_reference reference.entry).constraints (reference_target names.now.definitions.now (shown_place place.now).scope (shown_reference reference.entry))) }
 {
     let beside = constraints_behind(reference);
     let target = reference_target(alloc, names, &place.scope, reference)?;
@@ -280,9 +280,9 @@ fn selection_instance<'a>(
     place: &Place<'a>,
     selection: &'a ChoiceSelectionType,
 ) -> Mem<Option<ASN1Type>>
-    ensures { IfOk result (λ made. (m : ℕ) → option_map out-ASN1Type made ≡ replaced chosen names.now.definitions.now (meaning names.now.definitions.now (steps + m)) (instances names.now.definitions.now (steps + m) levels) down (shown_place place.now).scope (shown_place place.now).ty [] (selection_target (meaning names.now.definitions.now (steps + m)) (shown_place place.now).scope selection.now)) }
+    ensures { IfOk result (λ made. option_map out-ASN1Type made ≡ replaced chosen names.now.definitions.now (meaning names.now.definitions.now steps) (instances names.now.definitions.now steps levels) down (shown_place place.now).scope (shown_place place.now).ty [] (selection_target (meaning names.now.definitions.now steps) (shown_place place.now).scope selection.now)) }
 {
-    let target = selection_target(alloc, names, steps, &place.scope, selection)?;
+    let target = selection_target_within(alloc, names, steps, &place.scope, selection)?;
     let made = replaced(alloc, names, steps, levels, room, down, place, &[], target)?;
     Ok(made)
 }
@@ -301,7 +301,7 @@ fn field_instance<'a>(
     layer: &'a InformationObjectFieldReference,
 ) -> Mem<Option<ASN1Type>>
     requires is { out-ASN1Type ty.now ≡ field_layer layer.now }
-    ensures { IfOk result (λ made. (m : ℕ) → option_map out-ASN1Type made ≡ field_instance chosen names.now.definitions.now (meaning names.now.definitions.now (steps + m)) (instances names.now.definitions.now (steps + m) levels) down (shown_place place.now).scope (shown_place place.now).ty layer.now (class_field_type names.now.definitions.now (shown_place place.now).scope layer.now)) }
+    ensures { IfOk result (λ made. option_map out-ASN1Type made ≡ field_instance chosen names.now.definitions.now (meaning names.now.definitions.now steps) (instances names.now.definitions.now steps levels) down (shown_place place.now).scope (shown_place place.now).ty layer.now (class_field_type names.now.definitions.now (shown_place place.now).scope layer.now)) }
 {
     match class_field_type(names, &place.scope, layer) {
         None => Ok(None),
@@ -332,7 +332,7 @@ fn fixed_instance<'a>(
     beside: &'a [Constraint],
     fixed: TypeForm<'a>,
 ) -> Mem<Option<ASN1Type>>
-    ensures { IfOk result (λ made. (m : ℕ) → option_map out-ASN1Type made ≡ replaced chosen names.now.definitions.now (meaning names.now.definitions.now (steps + m)) (instances names.now.definitions.now (steps + m) levels) down (shown_place place.now).scope (shown_place place.now).ty beside.now (Some (bare Empty (shown_type fixed.entry)))) }
+    ensures { IfOk result (λ made. option_map out-ASN1Type made ≡ replaced chosen names.now.definitions.now (meaning names.now.definitions.now steps) (instances names.now.definitions.now steps levels) down (shown_place place.now).scope (shown_place place.now).ty beside.now (Some (bare Empty (shown_type fixed.entry)))) }
 {
     let target = Some(Target::outside(fixed));
     let made = replaced(
@@ -354,7 +354,7 @@ fn replaced<'a>(
     beside: &'a [Constraint],
     target: Option<Target<'a>>,
 ) -> Mem<Option<ASN1Type>>
-    ensures { IfOk result (λ made. (m : ℕ) → option_map out-ASN1Type made ≡ replaced chosen names.now.definitions.now (meaning names.now.definitions.now (steps + m)) (instances names.now.definitions.now (steps + m) levels) down (shown_place place.now).scope (shown_place place.now).ty beside.now (option_map shown_target target.entry)) }
+    ensures { IfOk result (λ made. option_map out-ASN1Type made ≡ replaced chosen names.now.definitions.now (meaning names.now.definitions.now steps) (instances names.now.definitions.now steps levels) down (shown_place place.now).scope (shown_place place.now).ty beside.now (option_map shown_target target.entry)) }
 {
     let Some(target) = target else {
         return Ok(None);
@@ -381,7 +381,7 @@ fn placed<'a>(
     ty: ASN1Type,
     target: &Target<'a>,
 ) -> Mem<Option<ASN1Type>>
-    ensures { IfOk result (λ made. (m : ℕ) → option_map out-ASN1Type made ≡ extended chosen names.now.definitions.now (meaning names.now.definitions.now (steps + m)) (instances names.now.definitions.now (steps + m) levels) (shown_place place.now).scope (shown_place place.now).ty beside.now (shown_target target.now) (out-ASN1Type ty) (has_no_place (out-ASN1Type ty))) }
+    ensures { IfOk result (λ made. option_map out-ASN1Type made ≡ extended chosen names.now.definitions.now (meaning names.now.definitions.now steps) (instances names.now.definitions.now steps levels) (shown_place place.now).scope (shown_place place.now).ty beside.now (shown_target target.now) (out-ASN1Type ty) (has_no_place (out-ASN1Type ty))) }
 {
     if has_no_place(&ty) {
         return Ok(Some(ty));
@@ -403,7 +403,7 @@ fn extended<'a>(
     ty: ASN1Type,
     target: &Target<'a>,
 ) -> Mem<Option<ASN1Type>>
-    ensures { IfOk result (λ made. (m : ℕ) → option_map out-ASN1Type made ≡ extended chosen names.now.definitions.now (meaning names.now.definitions.now (steps + m)) (instances names.now.definitions.now (steps + m) levels) (shown_place place.now).scope (shown_place place.now).ty beside.now (shown_target target.now) (out-ASN1Type ty) false) }
+    ensures { IfOk result (λ made. option_map out-ASN1Type made ≡ extended chosen names.now.definitions.now (meaning names.now.definitions.now steps) (instances names.now.definitions.now steps levels) (shown_place place.now).scope (shown_place place.now).ty beside.now (shown_target target.now) (out-ASN1Type ty) false) }
 {
     let at = &target.place;
     let own = target.constraints();
@@ -427,7 +427,7 @@ fn extended_beside<'a>(
     ty: ASN1Type,
     along: List<Constraint>,
 ) -> Mem<Option<ASN1Type>>
-    ensures { IfOk result (λ made. (m : ℕ) → option_map out-ASN1Type made ≡ extended_beside names.now.definitions.now (steps + m) levels (shown_place place.now) beside.now (out-ASN1Type ty) along) }
+    ensures { IfOk result (λ made. option_map out-ASN1Type made ≡ extended_beside names.now.definitions.now steps levels (shown_place place.now) beside.now (out-ASN1Type ty) along) }
 {
     let scope = &place.scope;
     let behind = of_constraints(alloc, names, steps, levels, room, scope, place, beside)?;

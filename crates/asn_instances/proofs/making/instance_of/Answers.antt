@@ -1,4 +1,4 @@
-use Rattle.std.proofs.Common.{◌+◌, ◌∙◌, ap, false}
+use Rattle.std.proofs.Common.{◌∙◌, ap, false}
 use Rattle.asn_heads.proofs.Scoping.{shown_nothing}
 use Rattle.asn_instance.specs.Closed.{every_name}
 use Rattle.asn_instance.specs.Instance.{instance}
@@ -6,6 +6,6 @@ use Rattle.asn_instance.specs.Literals.{literals}
 use Rattle.asn_instances.proofs.making.instance_of.Goals as goal
 
 pub returns : goal.returns
-returns c = λ m.
-    c.in_ok-made.ensures m
-    ∙ ap (λ scope. (instance (literals every_name) c.args.names.now.definitions.now (c.args.limits.steps + m) c.args.limits.levels).of_type false scope c.args.definition.now.ty) shown_nothing
+returns c =
+    c.in_ok-made.ensures
+    ∙ ap (λ scope. (instance (literals every_name) c.args.names.now.definitions.now c.args.limits.steps c.args.limits.levels).of_type false scope c.args.definition.now.ty) shown_nothing

@@ -1,4 +1,4 @@
-use Rattle.std.proofs.Common.{◌+◌, ◌∙◌, ap}
+use Rattle.std.proofs.Common.{◌∙◌, ap}
 use Rattle.asn_heads.proofs.Scoping.{shown_nothing}
 use Rattle.asn_instance.specs.Closed.{every_name}
 use Rattle.asn_instance.specs.Instance.{instance, placed_tag}
@@ -7,8 +7,8 @@ use Rattle.asn_meaning.specs.Judge.{meaning}
 use Rattle.asn_instances.proofs.tags.tag_of.Goals as goal
 
 pub returns : goal.returns
-returns c = λ m.
+returns c =
     let defs = c.args.names.now.definitions.now in
-    let n = c.args.limits.steps + m in
-    c.in_ok-tag.ensures m
+    let n = c.args.limits.steps in
+    c.in_ok-tag.ensures
     ∙ ap (λ scope. placed_tag (literals every_name) defs (meaning defs n) (instance (literals every_name) defs n c.args.limits.levels) scope c.args.definition.now.tag c.args.definition.now.ty) shown_nothing
