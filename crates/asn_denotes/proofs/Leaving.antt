@@ -14,12 +14,12 @@ use Rattle.asn_denotes.specs.Denotation.{shown_denotation}
 use Rattle.asn_denotes.specs.Leaves.{leaf}
 use Rattle.asn_denotes.specs.inner.Following.{next_denoted, shaped_by}
 use Rattle.asn_denotes.specs.inner.Reading.{shown_read}
-use Rattle.asn_denotes.proofs.Chaining.{behind, follow_begin, follow_not, shaped_as}
+use Rattle.asn_denotes.proofs.Chaining.{behind, follow_begin, follow_not}
 use Rattle.asn_denotes.proofs.Denoting.{by_parts as any_by_parts, denotes_in, headed as any_headed, headless as any_headless, under_closed as any_under_closed, under_open as any_under_open}
 use Rattle.asn_meaning.specs.Answers.{Answer, Yes, No, Unknown, Denotation, Denoted, Nothing, Unsure, made_of, once, provided}
 use Rattle.asn_meaning.specs.Braces.{elements_written, fields_written}
 use Rattle.asn_meaning.specs.Definitions.{Definitions}
-use Rattle.asn_meaning.specs.Denotes.{Read, denoted_under, denotes_at, is_open, may_stand, parts_row, read_denoted, shaped, struct_denoted, value_denoted, written_denoted, choice_row, list_row, struct_row, fields_denoted, trees_denoted}
+use Rattle.asn_meaning.specs.Denotes.{Read, denoted_under, denotes_at, is_open, may_stand, parts_row, read_denoted, shaped, struct_denoted, value_denoted, written_denoted, choice_row, fields_denoted, trees_denoted}
 use Rattle.asn_meaning.specs.Judge.{meaning}
 use Rattle.asn_meaning.specs.Kinds.{Kind, NullKind, ChoiceKind, ListKind, StructKind, kind_of}
 use Rattle.asn_meaning.specs.Layers.{OptionLayer}

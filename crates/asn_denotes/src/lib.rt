@@ -32,7 +32,6 @@ mod within;
 pub use bits::bits_written;
 pub use braces::{NamedValue, all_unnamed, elements_written, fields_written};
 pub use denotation::Denotation;
-pub use everything::is_all_over;
 pub use further::is_all;
 pub use rows::{number_written, row};
 pub use texts::string_written;

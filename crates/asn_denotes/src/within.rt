@@ -19,7 +19,7 @@ use asn_shapes::{Answer, Tree};
 use std::alloc::Global;
 
 /// What a value, read in its own scope, denotes under a type, where that has no parts and is known within these steps. Where it has
-/// parts, what is given may be anything but a tree without parts.
+/// parts, denotes nothing or is not known, what is given may be anything but a tree without parts.
 ///
 /// Err: want of memory.
 pub fn leaf_within<'a>(

@@ -172,7 +172,8 @@ pub fn lead_over<'a>(
 /// within more.
 ///
 /// None: the type has no head, however many steps there are, since a name leads nowhere, or is one that leads back to itself whatever
-/// its arguments. Err: want of memory, also where the steps are used up.
+/// its arguments; or, where it is asked for these steps alone, none within them. Err: want of memory, also where the steps are used up
+/// and it is asked for all further ones.
 #[cycle(heading)]
 #[tactic(auto, using(crate::proofs::Leading::head_is, crate::proofs::Leading::head_beyond, crate::proofs::Leading::head_lost, crate::proofs::Circling::lost_headless, crate::proofs::Spanning::no_head))]
 pub fn head_over<'a>(
