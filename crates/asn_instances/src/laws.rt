@@ -5,7 +5,8 @@ ghost use Rattle.asn_instances.specs.Laws.{MadeAreInstances};
 use asn_instance::{literals_steady, more_levels};
 use asn_own_instances::unchanged_are_own_instances;
 
-/// The type that is made of a definition is its instance, from some number of levels on, as the law of closed definitions asks (`asn_closed::closed_definitions_close`).
+/// The type that is made of a definition is its instance, from some number of levels on, as the law of closed definitions asks
+/// (`asn_closed::closed_definitions_close`).
 pub fn made_are_instances()
     ensures { MadeAreInstances }
 {

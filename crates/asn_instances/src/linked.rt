@@ -27,8 +27,9 @@ pub struct LinkedTypes {
 
 /// What linking makes of each of the definitions that stand, in their order, with its tag, and whether it is closed: the type of one that
 /// linking leaves as it is, else the instance of the type of one that is no template, where an instance lies within the steps and levels;
-/// of one that leads to a circle within as many as the limits tell for these. `standing` is what `Names::standing` gives of `names`. Where linking gives closed definitions these types, each name of one stands for a type that accepts and rejects the same
-/// trees as it did (`asn_closed::closed_definitions_close`, `asn_instance::closed_names_mean_the_same`).
+/// of one that leads to a circle within as many as the limits tell for these. `standing` is what `Names::standing` gives of `names`.
+/// Where linking gives closed definitions these types, each name of one stands for a type that accepts and rejects the same trees as it
+/// did (`asn_closed::closed_definitions_close`, `asn_instance::closed_names_mean_the_same`).
 ///
 /// # Errors
 ///
