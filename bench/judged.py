@@ -1,7 +1,7 @@
 #!/usr/bin/env python3
 """Times heads, values and judgements on growing texts, and prints a table: judged.py [PROGRAM].
 
-PROGRAM is the built program `judge_figures`; with none it is crates/judge_figures/out/judge_figures, as 'rt run' in that folder
+PROGRAM is the built program `figures_judge`; with none it is crates/figures_judge/out/figures_judge, as 'rt run' in that folder
 leaves it. It asks about the first type and the first value of a text. Each family grows by a number: names that lead to names, values
 that name values, templates in each other, members of a struct with all of them given, constraints behind each other. A text is read
 twice, once with a first type and a first value before it that lead nowhere, and the difference of the processor times is what its
@@ -78,7 +78,7 @@ FAMILIES = {
 
 def main(arguments):
     """Prints the table."""
-    program = usable(arguments, "judge_figures")
+    program = usable(arguments, "figures_judge")
     if program is None:
         return 2
     print(f"{'family':<32}{'number':>8}{'ms to read':>12}{'ms to answer':>14}{'us each':>9}  answer")

@@ -2,10 +2,10 @@
 """Counts the looks that the packrat table takes at texts, and prints a table: looks.py [SIZE..] [PROGRAM].
 
 The counter of looks that contracts speak of runs nowhere, so looks are counted from outside: valgrind's tool lackey (Debian's package
-valgrind) tells each load of the built program `asn_figures`, and those of one byte within the memory of the text are counted, after
+valgrind) tells each load of the built program `figures_table`, and those of one byte within the memory of the text are counted, after
 the text was read. The check that a text is UTF-8 loads eight bytes at once, so it counts for nothing but a few bytes at the end. The
 families are those of `tables.py`; sizes are 10,000 bytes where none is named. A hundred kilobytes take minutes a row. PROGRAM is the
-built program; with none it is crates/asn_figures/out/asn_figures, as 'rt run' in that folder leaves it. Nothing is asserted.
+built program; with none it is crates/figures_table/out/figures_table, as 'rt run' in that folder leaves it. Nothing is asserted.
 """
 
 import collections
@@ -55,7 +55,7 @@ def main(arguments):
     """Prints the table."""
     sizes = [int(word) for word in arguments if word.isdigit()] or [10_000]
     named = [word for word in arguments if not word.isdigit()]
-    program = usable(named, "asn_figures")
+    program = usable(named, "figures_table")
     if program is None or shutil.which("valgrind") is None:
         print("looks.py: it wants such a program, and valgrind", file=sys.stderr)
         return 2

@@ -1,7 +1,7 @@
 #!/usr/bin/env python3
-"""Times readers and rules on large texts and prints a table: readers.py [reader_rows|grammar_rows] [PROGRAM].
+"""Times readers and rules on large texts and prints a table: readers.py [rows_readers|rows_grammar] [PROGRAM].
 
-The large texts are the rows with a repetition in `stdin` of the programs of rows, crates/reader_rows and crates/grammar_rows:
+The large texts are the rows with a repetition in `stdin` of the programs of rows, crates/rows_readers and crates/rows_grammar:
 a kind of value or part a hundred thousand times through its reader, and through its rule alone, and a usual module with its
 definitions 30, 300 and 600 times, of a hundred kilobytes, of one and of two megabytes. Each row is run by itself. PROGRAM is
 the built program; with none it is out/NAME in its crate's folder, as 'rt run' there leaves it, and with no word both are
@@ -15,7 +15,7 @@ import resource
 import subprocess
 import sys
 
-PROGRAMS = ("reader_rows", "grammar_rows")
+PROGRAMS = ("rows_readers", "rows_grammar")
 REPETITION = re.compile(r"\\\{(\d+):(.*?)\\\}")
 LEAST = 100_000
 RUNS = 5

@@ -1,7 +1,7 @@
 #!/usr/bin/env python3
 """Times the packrat table on growing texts, and prints a table: tables.py [PROGRAM].
 
-PROGRAM is the built program `asn_figures`; with none it is crates/asn_figures/out/asn_figures, as 'rt run' in that folder
+PROGRAM is the built program `figures_table`; with none it is crates/figures_table/out/figures_table, as 'rt run' in that folder
 leaves it. It takes a text on standard input, makes the table of the whole text by the whole of ASN.1, and tells how many
 entries that has. Each row is a family of texts at a size: entries a byte, nanoseconds of processor time a byte, the best of
 five runs, and bytes of memory a byte beyond those of the smallest text. The usual modules are those of examples/, with their
@@ -89,7 +89,7 @@ def best_run(program, source, text):
 
 def main(arguments):
     """Prints the table."""
-    program = usable(arguments, "asn_figures")
+    program = usable(arguments, "figures_table")
     if program is None:
         return 2
     print(f"{'family':<32}{'bytes':>9}{'entries a byte':>16}{'ns a byte':>11}{'memory a byte':>15}")

@@ -6,7 +6,7 @@ use Rattle.std.specs.Ordering.{nat_cmp}
 use Rattle.std.specs.BTreeMap.{insert_entry}
 use Rattle.std.proofs.lemmas.Bool.Decides.{nat_tests}
 use Rattle.std.proofs.lemmas.List.{take_more, length-take-le}
-use Rattle.asn_notation.specs.Strings.{is_character, alone, codes_from, span, numbered}
+use Rattle.asn_tree_notation.specs.Strings.{is_character, alone, codes_from, span, numbered}
 
 is_one : (code : ℕ) → InScalarRange code → is_character code ≡ true
 is_one code h = grind (arith, nat_tests)

@@ -7,8 +7,8 @@ use Rattle.std.specs.Str.Parse.{ParsesSigned, digits_value}
 use Rattle.std.specs.Result.{OkIff}
 use Rattle.std.proofs.lemmas.Bool.Decides.{nat_tests}
 use Rattle.std.proofs.lemmas.Str.Parse.{IsNumeralModel, numerals_by_value, tells_all_ascii_digits, parse_signed_plain}
-use Rattle.asn_settings.specs.Settings.{starts_with_digit}
-use Rattle.asn_notation.specs.Syntax.{is_number}
+use Rattle.asn_tree_settings.specs.Settings.{starts_with_digit}
+use Rattle.asn_tree_notation.specs.Syntax.{is_number}
 
 digits : IsNumeralModel (λ ds. all_ascii_digits ds ≡ true) (digits_value 10)
 digits = numerals_by_value _ tells_all_ascii_digits

@@ -4,8 +4,8 @@ use Rattle.std.specs.List.{fold}
 use Rattle.std.proofs.lemmas.Int.{ints}
 use Rattle.asn_tree.specs.declared.constraints.Constraint.{Constraint}
 use Rattle.asn_tree.specs.declared.constraints.SubtypeElement.{SubtypeElement, SubtypeElement-F, out-SubtypeElement}
-use Rattle.asn_words.specs.declared.plain.IntegerType.{IntegerType}
-use Rattle.asn_words.specs.declared.plain.IntegerType.TheVariants.{Int8, Uint8, Int16, Uint16, Int32, Uint32, Int64, Uint64, Unbounded}
+use Rattle.asn_tree_leaves.specs.declared.plain.IntegerType.{IntegerType}
+use Rattle.asn_tree_leaves.specs.declared.plain.IntegerType.TheVariants.{Int8, Uint8, Int16, Uint16, Int32, Uint32, Int64, Uint64, Unbounded}
 use Rattle.asn_tree.specs.Layers.{ElementLayer}
 use Rattle.asn_calls.specs.Admitting.{IsFrom, IsTo, IsSingle, AdmitsAt, AdmitsIn, Admits, AllAdmit}
 use Rattle.asn_calls.specs.Constraints.{bounds_at, bounds_in, both, element_of, number_in, number_of}

@@ -1,11 +1,11 @@
 -- The tokens of a syntax.
 use Rattle.std.proofs.Common.{rules, ◌≡◌, Bool, true, List, [], ◌∷◌, ◌++◌, map, refl, ap, sym, ◌∙◌, append_assoc}
 use Rattle.std.specs.List.{flat_map}
-use Rattle.asn_syntax.specs.declared.objects.SyntaxExpression.{SyntaxExpression, SyntaxExpression-F, out-SyntaxExpression, map-SyntaxExpression, fold_out-SyntaxExpression}
-use Rattle.asn_syntax.specs.declared.objects.SyntaxExpression.TheVariants.{Required, Optional, outs-Required, outs-Optional}
-use Rattle.asn_syntax.specs.declared.objects.SyntaxToken.{SyntaxToken}
+use Rattle.asn_tree_leaves.specs.declared.objects.SyntaxExpression.{SyntaxExpression, SyntaxExpression-F, out-SyntaxExpression, map-SyntaxExpression, fold_out-SyntaxExpression}
+use Rattle.asn_tree_leaves.specs.declared.objects.SyntaxExpression.TheVariants.{Required, Optional, outs-Required, outs-Optional}
+use Rattle.asn_tree_leaves.specs.declared.objects.SyntaxToken.{SyntaxToken}
 use Rattle.asn_calls.specs.Laws.{FlatSyntax}
-use Rattle.asn_notation.specs.Syntax.{flattened, marked_optional, tokens_at, tokens_in, tokens_of, with_mark, with_mark_at}
+use Rattle.asn_tree_notation.specs.Syntax.{flattened, marked_optional, tokens_at, tokens_in, tokens_of, with_mark, with_mark_at}
 
 joined : (parts : List SyntaxExpression) → flat_map (λ tokens. tokens) (map tokens_in parts) ≡ tokens_of parts
 joined [] = refl

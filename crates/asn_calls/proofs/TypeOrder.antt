@@ -1,8 +1,8 @@
 -- The order of the integer types, from the most restrictive.
 use Rattle.std.proofs.Common.{◌≡◌, ◌≤◌, ◌^◌, ◌⊎◌, inl, inr, nat_le, ℤ, pos, negsuc, Bool, true, false, not, ◌&&◌, ◌||◌, if◌then◌else◌, refl, arith}
 use Rattle.std.proofs.lemmas.Bool.Decides.{nat_tests}
-use Rattle.asn_words.specs.declared.plain.IntegerType.{IntegerType}
-use Rattle.asn_words.specs.declared.plain.IntegerType.TheVariants.{Int8, Uint8, Int16, Uint16, Int32, Uint32, Int64, Uint64, Unbounded}
+use Rattle.asn_tree_leaves.specs.declared.plain.IntegerType.{IntegerType}
+use Rattle.asn_tree_leaves.specs.declared.plain.IntegerType.TheVariants.{Int8, Uint8, Int16, Uint16, Int32, Uint32, Int64, Uint64, Unbounded}
 use Rattle.asn_calls.specs.Integers.{place, earlier, holds}
 use Rattle.asn_calls.specs.Laws.{EarlierIsLeast}
 

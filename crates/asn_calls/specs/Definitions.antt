@@ -9,8 +9,8 @@ use Rattle.asn_tree.specs.declared.objects.ASN1Information.{ASN1Information}
 use Rattle.asn_tree.specs.declared.objects.ASN1Information.TheVariants.{ObjectClass, ObjectSet, Object}
 use Rattle.asn_tree.specs.declared.objects.InformationObjectClass.{InformationObjectClass}
 use Rattle.asn_tree.specs.declared.types.ASN1Type.{ASN1Type, ASN1Type-F, out-ASN1Type}
-use Rattle.asn_kinds.specs.declared.types.DistinguishedValue.{DistinguishedValue}
-use Rattle.asn_kinds.specs.declared.types.Enumeral.{Enumeral}
+use Rattle.asn_tree_kinds.specs.declared.types.DistinguishedValue.{DistinguishedValue}
+use Rattle.asn_tree_kinds.specs.declared.types.Enumeral.{Enumeral}
 use Rattle.asn_tree.specs.Calls.{name_of}
 use Rattle.asn_tree.specs.Layers.{TypeLayer}
 

@@ -2,8 +2,8 @@
 use Rattle.std.specs.Prelude.{ℕ, ◌-◌, ◌^◌, nat_le, ℤ, pos, negsuc, int_le, int_lt, Bool, true, false, ◌&&◌, List, [], ◌∷◌, Option, Some, None, codes, if◌then◌else◌}
 use Rattle.std.specs.List.{fold}
 use Rattle.asn_tree.specs.declared.constraints.Constraint.{Constraint}
-use Rattle.asn_words.specs.declared.plain.IntegerType.{IntegerType}
-use Rattle.asn_words.specs.declared.plain.IntegerType.TheVariants.{Int8, Uint8, Int16, Uint16, Int32, Uint32, Int64, Uint64, Unbounded}
+use Rattle.asn_tree_leaves.specs.declared.plain.IntegerType.{IntegerType}
+use Rattle.asn_tree_leaves.specs.declared.plain.IntegerType.TheVariants.{Int8, Uint8, Int16, Uint16, Int32, Uint32, Int64, Uint64, Unbounded}
 use Rattle.asn_calls.specs.Constraints.{bounds_of}
 
 -- the place of a type among them

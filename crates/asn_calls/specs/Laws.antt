@@ -3,15 +3,15 @@ use Rattle.std.specs.Prelude.{◌≡◌, ℕ, ◌≤◌, ◌⊎◌, ℤ, true, f
 use Rattle.std.specs.Borrow.{Bor}
 use Rattle.std.specs.Iterator.{Yields, Drains}
 use Rattle.asn_tree.specs.declared.constraints.Constraint.{Constraint}
-use Rattle.asn_words.specs.declared.plain.IntegerType.{IntegerType}
-use Rattle.asn_syntax.specs.declared.objects.SyntaxExpression.{SyntaxExpression}
-use Rattle.asn_syntax.specs.declared.objects.SyntaxExpression.TheVariants.{Required, Optional}
-use Rattle.asn_syntax.specs.declared.objects.SyntaxToken.{SyntaxToken}
+use Rattle.asn_tree_leaves.specs.declared.plain.IntegerType.{IntegerType}
+use Rattle.asn_tree_leaves.specs.declared.objects.SyntaxExpression.{SyntaxExpression}
+use Rattle.asn_tree_leaves.specs.declared.objects.SyntaxExpression.TheVariants.{Required, Optional}
+use Rattle.asn_tree_leaves.specs.declared.objects.SyntaxToken.{SyntaxToken}
 use Rattle.asn_tree.specs.declared.types.ASN1Type.{ASN1Type}
 use Rattle.asn_calls.specs.Admitting.{AllAdmit}
 use Rattle.asn_calls.specs.Integers.{place, earlier, holds, type_of_all}
 use Rattle.asn_calls.specs.Members.{NameTypesGive, lent_pair}
-use Rattle.asn_notation.specs.Syntax.{flattened, tokens_of}
+use Rattle.asn_tree_notation.specs.Syntax.{flattened, tokens_of}
 
 -- The most restrictive of two integer types is one of them, and none of them comes before it. The order is that of what the
 -- types hold, as far as that goes: a type whose numbers are all another's does not come behind it.

@@ -6,14 +6,14 @@ use Rattle.asn_tree.specs.declared.constraints.Constraint.{Constraint}
 use Rattle.asn_tree.specs.declared.types.ASN1Type.{ASN1Type, ASN1Type-F, out-ASN1Type, roll-ASN1Type}
 use Rattle.asn_tree.specs.declared.types.ASN1Type.TheVariants as ty
 use Rattle.asn_tree.specs.declared.types.Choice.{out-Choice, roll-Choice}
-use Rattle.asn_kinds.specs.declared.types.ChoiceSelectionType.{ChoiceSelectionType}
-use Rattle.asn_kinds.specs.declared.objects.InformationObjectFieldReferenceOver.{InformationObjectFieldReferenceOver}
+use Rattle.asn_tree_kinds.specs.declared.types.ChoiceSelectionType.{ChoiceSelectionType}
+use Rattle.asn_tree_kinds.specs.declared.objects.InformationObjectFieldReferenceOver.{InformationObjectFieldReferenceOver}
 use Rattle.asn_tree.specs.declared.types.SequenceOrSet.{out-SequenceOrSet, roll-SequenceOrSet}
 use Rattle.asn_tree.specs.declared.types.SequenceOrSetOf.{out-SequenceOrSetOf, roll-SequenceOrSetOf}
 use Rattle.asn_tree.specs.Layers.{TypeLayer}
-use Rattle.asn_notation.specs.Paths.{path}
-use Rattle.asn_notation.specs.Strings.{string_word, string_named}
-use Rattle.asn_notation.specs.Types.{constraints_of}
+use Rattle.asn_tree_notation.specs.Paths.{path}
+use Rattle.asn_tree_notation.specs.Strings.{string_word, string_named}
+use Rattle.asn_tree_notation.specs.Types.{constraints_of}
 
 -- The words of a type's own notation. A type reference, a selection and a class's field have none.
 abbrev pub words_at : TypeLayer → Option (List ℕ)

@@ -8,13 +8,13 @@ use Rattle.std.specs.BTreeMap.{BTreeMap}
 use Rattle.asn_calls.specs.declared.values.Pick.{Pick}
 use Rattle.asn_calls.specs.declared.values.Pick.TheVariants.{Lesser, Greater}
 use Rattle.asn_calls.specs.Constraints.{both, number_of}
-use Rattle.asn_faults.specs.declared.errors.GrammarError.{GrammarError}
-use Rattle.asn_faults.specs.declared.errors.LinkFault.{LinkFault}
-use Rattle.asn_faults.specs.declared.errors.LinkFault.TheVariants.{Grammar, OutOfMemory}
+use Rattle.asn_tree_leaves.specs.declared.errors.GrammarError.{GrammarError}
+use Rattle.asn_tree_leaves.specs.declared.errors.LinkFault.{LinkFault}
+use Rattle.asn_tree_leaves.specs.declared.errors.LinkFault.TheVariants.{Grammar, OutOfMemory}
 use Rattle.asn_tree.specs.declared.values.ASN1Value.{ASN1Value, ASN1Value-F, out-ASN1Value}
 use Rattle.asn_tree.specs.declared.values.ASN1Value.TheVariants as value
-use Rattle.asn_kinds.specs.declared.values.StructLikeFieldValueOver.{StructLikeFieldValueOver}
-use Rattle.asn_kinds.specs.declared.values.StructLikeFieldValueOver.TheVariants as field
+use Rattle.asn_tree_kinds.specs.declared.values.StructLikeFieldValueOver.{StructLikeFieldValueOver}
+use Rattle.asn_tree_kinds.specs.declared.values.StructLikeFieldValueOver.TheVariants as field
 use Rattle.asn_tree.specs.Layers.{ValueLayer}
 
 abbrev pub text_at : ValueLayer → Option (List ℕ)

@@ -2,7 +2,7 @@
 //!
 //! It stands on the trees, and knows nothing of texts or of names' meaning. A call on a type of the trees is a function of
 //! a trait that is named after the type with `Calls` behind it. The numbers of an enumeration and the tagging of
-//! definitions stand in rooms of their own, asn_numbers and asn_tagging, and are handed on.
+//! definitions stand in rooms of their own, asn_tree_numbers and asn_tree_tagging, and are handed on.
 #![tactic(auto)]
 
 mod builtin;
@@ -20,8 +20,8 @@ mod syntax;
 mod types;
 mod values;
 
-pub use asn_numbers::{enumerate, numbers_are_distinct, numbers_are_one};
-pub use asn_tagging::{ToplevelDefinitionTagging, environments_add_up};
+pub use asn_tree_numbers::{enumerate, numbers_are_distinct, numbers_are_one};
+pub use asn_tree_tagging::{ToplevelDefinitionTagging, environments_add_up};
 pub use constrainable::Constrainable;
 pub use constraints::ConstraintCalls;
 pub use definitions::{

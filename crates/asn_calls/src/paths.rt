@@ -1,6 +1,6 @@
 //! Calls on the names of fields, and on the paths that they make.
 
-ghost use Rattle.asn_notation.specs.Paths.{field_name, path};
+ghost use Rattle.asn_tree_notation.specs.Paths.{field_name, path};
 ghost use Rattle.std.specs.Prelude.{◌≡◌, IfOk};
 
 use asn_memory::{Mem, Text};

@@ -1,6 +1,6 @@
 //! Calls on the character string types.
 
-ghost use Rattle.asn_notation.specs.Strings.{alone, characters, numbered, span, string_named, string_word};
+ghost use Rattle.asn_tree_notation.specs.Strings.{alone, characters, numbered, span, string_named, string_word};
 ghost use Rattle.std.specs.Option.{option_to_list};
 ghost use Rattle.std.specs.Prelude.{◌≡◌, ◌++◌, IfOk, OnErr, OnOk};
 
@@ -111,7 +111,7 @@ pub(crate) fn string_word(ty: CharacterStringType) -> &'static str
 }
 
 /// The type of this word.
-#[tactic(auto, unfolding(asn_notation::specs::Strings::string_named))]
+#[tactic(auto, unfolding(asn_tree_notation::specs::Strings::string_named))]
 pub(crate) fn string_named(word: &str) -> Option<CharacterStringType>
     ensures { result ≡ string_named word.now }
 {

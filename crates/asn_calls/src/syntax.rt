@@ -3,7 +3,7 @@
 //! `matching` tells whether an item of an object may stand at the place of a token, `flattening` lists the tokens of a
 //! syntax at any depth of groups.
 
-ghost use Rattle.asn_notation.specs.Syntax.{field_or_empty, given_name, token_text};
+ghost use Rattle.asn_tree_notation.specs.Syntax.{field_or_empty, given_name, token_text};
 ghost use Rattle.std.specs.Prelude.{◌≡◌};
 
 use crate::paths::ObjectFieldIdentifierCalls;

@@ -2,7 +2,7 @@
 
 ghost use Rattle.asn_calls.specs.LentTypes.{constraints_row};
 ghost use Rattle.asn_calls.specs.Types.{builtin_named, constraints_held, elsewhere, is_builtin, is_const, type_name, with_constraints};
-ghost use Rattle.asn_same.specs.Making.{listed};
+ghost use Rattle.asn_tree_equality.specs.Making.{listed};
 ghost use Rattle.asn_tree.specs.contracts.types.ASN1Type.{the_row};
 ghost use Rattle.std.specs.Borrow.{LendsIf, sem};
 ghost use Rattle.std.specs.Option.{option_copied, option_map, unwrap_or};
@@ -11,8 +11,8 @@ ghost use Rattle.std.specs.Prelude.{◌≡◌, IfOk, None, OnErr};
 use crate::builtin::{builtin, elsewhere};
 use crate::names::{name, words};
 use asn_memory::{List, Mem, Text};
-use asn_same::listed;
 use asn_tree::{ASN1Type, Constraint};
+use asn_tree_equality::listed;
 use std::alloc::Global;
 
 /// Calls on `ASN1Type`.

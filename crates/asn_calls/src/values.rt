@@ -4,7 +4,7 @@ ghost use Rattle.asn_calls.specs.Constraints.{both, number_of};
 ghost use Rattle.asn_calls.specs.Faults.{IsUnpackingError};
 ghost use Rattle.asn_calls.specs.LentTypes.{value_row};
 ghost use Rattle.asn_calls.specs.Values.{IfRefused, IfWanting, IsText, behind, chosen, chosen_number, chosen_text, entries_of, greater, is_elsewhere, keeps_first, lesser, lesser_of, number_in_set, place_in, text_of, with_behind};
-ghost use Rattle.asn_kinds.specs.contracts.values.StructLikeFieldValueOver.{the_row};
+ghost use Rattle.asn_tree_kinds.specs.contracts.values.StructLikeFieldValueOver.{the_row};
 ghost use Rattle.std.specs.Borrow.{Lends, sem};
 ghost use Rattle.std.specs.Option.{option_copied, option_map};
 ghost use Rattle.std.specs.Prelude.{◌≡◌, IfErr, IfOk, IsOkUnless, None, Some};

@@ -1,6 +1,6 @@
 -- Linking keeps the meaning of a reading.
 use Rattle.asn_check.specs.KeptMeaning.{LinkingKeepsMeaning}
-use Rattle.asn_linking.specs.Laws.{CleanMeanTheSame}
+use Rattle.asn_link.specs.Laws.{CleanMeanTheSame}
 use Rattle.asn_meaning.specs.Laws.{RetaggedTypesMeanTheSame}
 use Rattle.asn_names.specs.Definitions.{definitions_of}
 use Rattle.asn_names.specs.Given.{given_definitions}

@@ -11,20 +11,20 @@ use Rattle.std.proofs.lemmas.List.Elements.{All-append, All-cons, All-contains, 
 use Rattle.std.proofs.lemmas.List.Kept.{AllPairs-cons}
 use Rattle.std.proofs.lemmas.Slice.Eq.{bytes_eq-Decides}
 use Rattle.asn_tree.specs.declared.definitions.ToplevelDefinition.{ToplevelDefinition}
-use Rattle.asn_faults.specs.declared.errors.LinkerError.{LinkerError}
-use Rattle.asn_faults.specs.declared.errors.LinkerErrorType.TheVariants as kind
+use Rattle.asn_tree_leaves.specs.declared.errors.LinkerError.{LinkerError}
+use Rattle.asn_tree_leaves.specs.declared.errors.LinkerErrorType.TheVariants as kind
 use Rattle.asn_check.specs.KeptMeaning.{WarningsAreDue}
 use Rattle.asn_check.specs.Warnings.{Linkedness, Warning, warning, warning_for, IsDue, of_its_fault, of_several, IsBelow, Precedes, AreWarnings, of_fault, of_duplicate, IsFaultOf, AreWarningsOn, AreWarningsOf, no_names, on_each, said_by}
 use Rattle.asn_names.specs.declared.faults.Fault.{Fault}
 use Rattle.asn_names.specs.declared.faults.Fault.TheVariants.{Argument, MissingDependency, NotYetInplemented}
-use Rattle.asn_index.specs.Definitions.{Definitions, IsStanding, is_duplicate, is_named, last_named, name_of}
+use Rattle.asn_names_index.specs.Definitions.{Definitions, IsStanding, is_duplicate, is_named, last_named, name_of}
 use Rattle.asn_names.specs.Faults.{HasFault}
 use Rattle.asn_names.proofs.Faultless.{one_fault}
-use Rattle.asn_index.specs.Index.{place_in}
-use Rattle.asn_index.specs.declared.names.LastPlace.{LastPlace}
+use Rattle.asn_names_index.specs.Index.{place_in}
+use Rattle.asn_names_index.specs.declared.names.LastPlace.{LastPlace}
 use Rattle.asn_names.specs.Standing.{IsDefined}
-use Rattle.asn_index.proofs.LastPlaces.{Tells, tells}
-use Rattle.asn_index.proofs.Seen.{or_else}
+use Rattle.asn_names_index.proofs.LastPlaces.{Tells, tells}
+use Rattle.asn_names_index.proofs.Seen.{or_else}
 
 -- ---- lists in order
 
@@ -171,7 +171,7 @@ module _ (defs : Definitions) (linked : Linkedness) where
 -- ---- the names of the linked definitions
 
 -- the last definition of a name stands in the list
-name_there : (name : List ℕ) (ds : Definitions) → IsDefined ds name → Contains (map name_of ds) name
+pub name_there : (name : List ℕ) (ds : Definitions) → IsDefined ds name → Contains (map name_of ds) name
 name_there name [] (d, is) = absurd cc
 name_there name (x ∷ ds) (d, is) = go (last_named ds name) refl (name_there name ds) is
   where

@@ -8,10 +8,10 @@ use Rattle.asn_meaning.specs.Definitions.{type_named}
 use Rattle.asn_meaning.specs.Plain.{IsPlain}
 use Rattle.asn_meaning.specs.Scopes.{Empty}
 use Rattle.asn_meaning.specs.ValueTrees.{ValueTree}
-use Rattle.asn_index.specs.Definitions.{IsStanding, name_of}
+use Rattle.asn_names_index.specs.Definitions.{IsStanding, name_of}
 use Rattle.asn_names.specs.Definitions.{Definitions, Module, definitions_of}
 use Rattle.asn_names.specs.Given.{given_definitions}
-use Rattle.asn_linking.specs.Linked.{Linking, is_clean, linked_definitions}
+use Rattle.asn_link.specs.Linked.{Linking, is_clean, linked_definitions}
 
 -- The second type accepts over its definitions exactly the value trees that the first accepts over its own.
 abbrev pub AcceptsAlike : Definitions → ASN1Type → Definitions → ASN1Type → Type 0

@@ -1,3 +1,4 @@
+pub mod Judged
 pub mod Warnings
 pub mod Needed
 pub mod Linked

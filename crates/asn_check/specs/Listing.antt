@@ -1,11 +1,11 @@
 -- The text of a linked answer.
 use Rattle.std.specs.Prelude.{ℕ, List, [], ◌∷◌, ◌++◌, Option, Some, None, codes}
-use Rattle.asn_faults.specs.declared.errors.LinkerError.{LinkerError}
-use Rattle.asn_faults.specs.declared.errors.GrammarErrorType.{GrammarErrorType}
-use Rattle.asn_faults.specs.declared.errors.GrammarErrorType.TheVariants as grammar
-use Rattle.asn_faults.specs.declared.errors.LinkerErrorType.{LinkerErrorType}
-use Rattle.asn_faults.specs.declared.errors.LinkerErrorType.TheVariants.{MissingDependency, InvalidConstraintsError, Unknown, Cycle, Argument, Duplicate}
-use Rattle.asn_listing.specs.Definitions.{definition_lines}
+use Rattle.asn_tree_leaves.specs.declared.errors.LinkerError.{LinkerError}
+use Rattle.asn_tree_leaves.specs.declared.errors.GrammarErrorType.{GrammarErrorType}
+use Rattle.asn_tree_leaves.specs.declared.errors.GrammarErrorType.TheVariants as grammar
+use Rattle.asn_tree_leaves.specs.declared.errors.LinkerErrorType.{LinkerErrorType}
+use Rattle.asn_tree_leaves.specs.declared.errors.LinkerErrorType.TheVariants.{MissingDependency, InvalidConstraintsError, Unknown, Cycle, Argument, Duplicate}
+use Rattle.asn_check_listing.specs.Definitions.{definition_lines}
 use Rattle.asn_check.specs.declared.linked.Linked.{Linked}
 
 abbrev pub kind_text : LinkerErrorType → List ℕ

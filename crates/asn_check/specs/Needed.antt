@@ -1,10 +1,10 @@
 -- Warnings as the relation of needs and faults has them, over the whole notation.
 use Rattle.std.specs.Prelude.{◌≡◌, ◌↔◌, ℕ, List, true}
 use Rattle.std.specs.List.{Contains}
-use Rattle.asn_faults.specs.declared.errors.GrammarErrorType.TheVariants as grammar
-use Rattle.asn_faults.specs.declared.errors.LinkerErrorType.TheVariants as kind
+use Rattle.asn_tree_leaves.specs.declared.errors.GrammarErrorType.TheVariants as grammar
+use Rattle.asn_tree_leaves.specs.declared.errors.LinkerErrorType.TheVariants as kind
 use Rattle.asn_needs.specs.Faults.{Fault, Cycle, Argument, MissingDependency, NotYetInplemented, SyntaxMismatch, LinkerError, InvalidConstraintsError, IsFaultOn}
-use Rattle.asn_index.specs.Definitions.{Definitions, is_duplicate}
+use Rattle.asn_names_index.specs.Definitions.{Definitions, is_duplicate}
 use Rattle.asn_names.specs.Needed.{AreJudged}
 use Rattle.asn_check.specs.Warnings.{IsDue, Linkedness, Warning, refused, warning}
 

@@ -5,14 +5,14 @@ use Rattle.std.specs.List.{AllPairs, Contains}
 use Rattle.std.specs.Ordering.{nat_cmp}
 use Rattle.std.specs.declared.cmp.Ordering.TheVariants.{Less}
 use Rattle.asn_tree.specs.declared.definitions.ToplevelDefinition.{ToplevelDefinition}
-use Rattle.asn_faults.specs.declared.errors.GrammarErrorType.{GrammarErrorType}
-use Rattle.asn_faults.specs.declared.errors.GrammarErrorType.TheVariants as grammar
-use Rattle.asn_faults.specs.declared.errors.LinkerError.{LinkerError}
-use Rattle.asn_faults.specs.declared.errors.LinkerErrorType.{LinkerErrorType}
-use Rattle.asn_faults.specs.declared.errors.LinkerErrorType.TheVariants as kind
+use Rattle.asn_tree_leaves.specs.declared.errors.GrammarErrorType.{GrammarErrorType}
+use Rattle.asn_tree_leaves.specs.declared.errors.GrammarErrorType.TheVariants as grammar
+use Rattle.asn_tree_leaves.specs.declared.errors.LinkerError.{LinkerError}
+use Rattle.asn_tree_leaves.specs.declared.errors.LinkerErrorType.{LinkerErrorType}
+use Rattle.asn_tree_leaves.specs.declared.errors.LinkerErrorType.TheVariants as kind
 use Rattle.asn_names.specs.declared.faults.Fault.{Fault}
 use Rattle.asn_names.specs.declared.faults.Fault.TheVariants.{Argument, MissingDependency, NotYetInplemented}
-use Rattle.asn_index.specs.Definitions.{Definitions, is_duplicate, last_named}
+use Rattle.asn_names_index.specs.Definitions.{Definitions, is_duplicate, last_named}
 use Rattle.asn_names.specs.Faults.{HasFault}
 
 -- what a warning says, its words aside

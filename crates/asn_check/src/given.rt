@@ -4,10 +4,10 @@ ghost use Rattle.asn_names.specs.Definitions.{definitions_of};
 ghost use Rattle.asn_names.specs.Given.{given, given_definitions, given_from};
 ghost use Rattle.std.specs.Prelude.{◌≡◌, ◌++◌, IfOk, OnOk};
 
-use asn_copy_trees::copy_toplevel_definition;
+use asn_copy_linked::copy_toplevel_definition;
 use asn_memory::{List, Mem};
-use asn_tagging::ToplevelDefinitionTagging;
 use asn_tree::{Reading, TaggingEnvironment, ToplevelDefinition};
+use asn_tree_tagging::ToplevelDefinitionTagging;
 use std::alloc::Global;
 
 /// A copy of a definition with its numbers and its module's environment.

@@ -3,7 +3,7 @@
 ghost use Rattle.asn_check.specs.KeptMeaning.{LinkingKeepsMeaning, OneListOfWarnings, WarningsAreDue};
 ghost use Rattle.asn_check.specs.Needed.{DueAreWarned};
 
-use asn_linking::clean_mean_the_same;
+use asn_link::clean_mean_the_same;
 use asn_meaning::retagged_types_mean_the_same;
 use asn_names::{faults_stand, given_differ_in_tags};
 

@@ -4,7 +4,7 @@ ghost use Rattle.asn_check.specs.Listing.{fault_text, grammar_text, kind_text, l
 ghost use Rattle.std.specs.Prelude.{◌≡◌, ◌++◌, IfOk, OnOk};
 
 use crate::linked::Linked;
-use asn_listing::write_definitions;
+use asn_check_listing::write_definitions;
 use asn_memory::{Mem, Text};
 use asn_tree::{GrammarErrorType, LinkerError, LinkerErrorType};
 use std::alloc::Global;

@@ -1,13 +1,13 @@
 //! Values that are literals of their own type.
 
-ghost use Rattle.asn_heads.specs.Kinds.{shown_kind};
-ghost use Rattle.asn_heads.specs.Written.{shown_written};
+ghost use Rattle.asn_meaning_heads.specs.Kinds.{shown_kind};
+ghost use Rattle.asn_meaning_heads.specs.Written.{shown_written};
 ghost use Rattle.asn_meaning.specs.Kinds.{kind_of_type};
 ghost use Rattle.asn_meaning.specs.Written.{as_written};
 ghost use Rattle.asn_names.specs.Literals.{is_own_literal, literal_form, takes};
 ghost use Rattle.std.specs.Prelude.{◌≡◌};
 
-use asn_heads::{Kind, Written, as_written, kind_of_tree};
+use asn_meaning_heads::{Kind, Written, as_written, kind_of_tree};
 use asn_names::LiteralForm;
 use asn_tree::{ASN1Type, ASN1Value, ToplevelValueDefinition};
 

@@ -1,18 +1,18 @@
 //! The warnings of a linked answer.
 
 ghost use Rattle.asn_check.specs.Warnings.{AreWarningsOf, AreWarningsOn, IsFaultOf, of_duplicate, of_fault, refused, said_by, warning, warning_for};
-ghost use Rattle.asn_circles.specs.Circles.{FollowersAre, FollowsNoCircle, FreeAre, LeadsToNoCircle};
-ghost use Rattle.asn_index.specs.Definitions.{last_named, name_of};
-ghost use Rattle.asn_linking.specs.Linked.{is_told};
-ghost use Rattle.asn_name_graph.specs.Drawn.{Ascend};
-ghost use Rattle.std.specs.Prelude.{◌≡◌, ◌↔◌, ◌++◌, IfOk, IsTrue, OnOk, length, map};
+ghost use Rattle.asn_check.specs.Judged.{AreJudgements, IsJudgementOf};
+ghost use Rattle.asn_names_index.specs.Definitions.{last_named, name_of};
+ghost use Rattle.asn_link.specs.Linked.{is_told};
+ghost use Rattle.asn_names_graph.specs.Drawn.{Ascend};
+ghost use Rattle.std.specs.Prelude.{◌≡◌, ◌<◌, ◌++◌, IfOk, OnOk, get_or, length, map};
 
-use crate::judging::fault_of;
-use asn_copy_trees::copy_text;
-use asn_index::Names;
-use asn_linking::is_told;
+use crate::judging::{fault_by, is_settled};
+use asn_copy_linked::copy_text;
+use asn_link::is_told;
 use asn_memory::{List, Mem, Text};
-use asn_names::Fault;
+use asn_names::{Fault, Judgement};
+use asn_names_index::Names;
 use asn_tree::{GrammarErrorType, LinkerError, LinkerErrorType, ToplevelDefinition};
 use std::alloc::Global;
 
@@ -76,35 +76,19 @@ fn warn_of_fault(
     }
 }
 
-/// The fault of the definition that stands for the name, where its type was linked or not.
-///
-/// Err: want of memory.
+/// The fault of the definition that stands for the name, of which this is told, where its type was linked or not.
 fn standing_fault(
-    alloc: Global,
     names: &Names<'_>,
     name: &str,
     linked: bool,
-    is_free: bool,
-    follows_none: bool,
-) -> Mem<Option<Fault>>
-    requires free { IsTrue is_free ↔ LeadsToNoCircle names.now.definitions.now name.now }
-    requires follows { IsTrue follows_none ↔ FollowsNoCircle names.now.definitions.now name.now }
-    ensures { IfOk result (λ fault. IsFaultOf names.now.definitions.now name.now linked (last_named names.now.definitions.now name.now) fault) }
+    judgement: Judgement,
+) -> Option<Fault>
+    requires { IsJudgementOf names.now.definitions.now name.now (last_named names.now.definitions.now name.now) judgement }
+    ensures { IsFaultOf names.now.definitions.now name.now linked (last_named names.now.definitions.now name.now) result }
 {
     match names.last_named(name) {
-        Some(definition) => {
-            let fault = fault_of(
-                alloc,
-                names,
-                name,
-                definition,
-                linked,
-                is_free,
-                follows_none,
-            )?;
-            Ok(fault)
-        }
-        None => Ok(None),
+        Some(definition) => fault_by(judgement, is_settled(definition, linked)),
+        None => None,
     }
 }
 
@@ -124,7 +108,8 @@ fn warn_of_duplicate(
     }
 }
 
-/// All warnings on a name, where `made` tells of each of all names whether the type of its definition was linked.
+/// All warnings on a name, of whose definition this is told, where `made` tells of each of all names whether the type of its definition
+/// was linked.
 ///
 /// Err: want of memory.
 fn warnings_on(
@@ -133,17 +118,15 @@ fn warnings_on(
     all: &[&Text],
     made: &[bool],
     name: &Text,
-    is_free: bool,
-    follows_none: bool,
+    judgement: Judgement,
 ) -> Mem<List<LinkerError>>
     requires ascend { Ascend (map (λ n. n.now) all.now) }
     requires long { length made.now ≡ length all.now }
-    requires free { IsTrue is_free ↔ LeadsToNoCircle names.now.definitions.now name.now }
-    requires follows { IsTrue follows_none ↔ FollowsNoCircle names.now.definitions.now name.now }
+    requires judged { IsJudgementOf names.now.definitions.now name.now (last_named names.now.definitions.now name.now) judgement }
     ensures { IfOk result (λ ws. AreWarningsOn names.now.definitions.now (is_told (map (λ n. n.now) all.now) made.now) name.now (map said_by ws)) }
 {
     let linked = is_told(all, made, name);
-    let fault = standing_fault(alloc, names, name.as_str(), linked, is_free, follows_none)?;
+    let fault = standing_fault(names, name.as_str(), linked, judgement);
     let mut warnings = List::new(alloc);
     warn_of_fault(alloc, &mut warnings, name, fault)?;
     let several = names.is_duplicate(name.as_str());
@@ -151,8 +134,16 @@ fn warnings_on(
     Ok(warnings)
 }
 
-/// All warnings on the names of these definitions, in their order; `free` tells of each whether it leads to no circle, and `follow`
-/// whether no name that it follows does; `made` tells of each of all names whether the type of its definition was linked.
+/// What is told at a place.
+fn told_at(judgements: &[Judgement], place: usize) -> Judgement
+    requires { place < length judgements.now }
+    ensures { result ≡ get_or judgements.now place result }
+{
+    judgements[place]
+}
+
+/// All warnings on the names of these definitions, in their order, of each of which something is told; `made` tells of each of all names
+/// whether the type of its definition was linked.
 ///
 /// Err: want of memory.
 pub(crate) fn warnings_on_all(
@@ -161,19 +152,18 @@ pub(crate) fn warnings_on_all(
     all: &[&Text],
     made: &[bool],
     definitions: &[&ToplevelDefinition],
-    free: &[bool],
-    follow: &[bool],
+    judgements: &[Judgement],
 ) -> Mem<List<LinkerError>>
     requires ascend { Ascend (map (λ n. n.now) all.now) }
     requires long { length made.now ≡ length all.now }
-    requires free { FreeAre names.now.definitions.now (map (λ d. name_of d.now) definitions.now) free.now }
-    requires follow { FollowersAre names.now.definitions.now (map (λ d. name_of d.now) definitions.now) follow.now }
+    requires judged { AreJudgements names.now.definitions.now (map (λ d. name_of d.now) definitions.now) judgements.now }
     ensures { IfOk result (λ ws. AreWarningsOf names.now.definitions.now (is_told (map (λ n. n.now) all.now) made.now) (map (λ d. name_of d.now) definitions.now) (map said_by ws)) }
 {
     let mut warnings = List::new(alloc);
     for (i, definition) in definitions.iter().enumerate() {
         let name = definition.name();
-        let here = warnings_on(alloc, names, all, made, name, free[i], follow[i])?;
+        let judgement = told_at(judgements, i);
+        let here = warnings_on(alloc, names, all, made, name, judgement)?;
         warnings.append(here)?;
     }
     Ok(warnings)

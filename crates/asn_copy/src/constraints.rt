@@ -2,7 +2,7 @@
 
 ghost use Rattle.std.specs.Prelude.{◌≡◌, IfOk};
 
-use asn_copy_trees::{
+use asn_copy_linked::{
     both, boxed, copy_constraint, copy_constraints, copy_element_or_set_operation, copy_list,
     copy_object_set, copy_optional_value, copy_relational_constraint, copy_text,
 };

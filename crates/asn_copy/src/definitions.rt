@@ -2,7 +2,7 @@
 
 ghost use Rattle.std.specs.Prelude.{◌≡◌, IfOk};
 
-use asn_copy_trees::{both, copy_list, copy_module_reference, copy_toplevel_definition};
+use asn_copy_linked::{both, copy_list, copy_module_reference, copy_toplevel_definition};
 use asn_memory::{List, Mem};
 use asn_tree::{ModuleReference, Reading, ToplevelDefinition};
 use std::alloc::Global;

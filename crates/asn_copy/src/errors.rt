@@ -2,7 +2,7 @@
 
 ghost use Rattle.std.specs.Prelude.{◌≡◌, IfOk};
 
-use asn_copy_trees::copy_optional_text;
+use asn_copy_linked::copy_optional_text;
 use asn_memory::Mem;
 use asn_tree::{GrammarError, LinkFault, LinkerError};
 use std::alloc::Global;

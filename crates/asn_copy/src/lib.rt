@@ -1,6 +1,6 @@
 //! Copies of trees, of each type of tree: each equals what it copies.
 //!
-//! The copies that linking waits for stand in asn_copy_trees and are handed on; the others stand here, on those. `making`
+//! The copies that linking waits for stand in asn_copy_linked and are handed on; the others stand here, on those. `making`
 //! has the trees in which a part stands twice.
 #![tactic(auto)]
 
@@ -12,7 +12,7 @@ mod objects;
 mod types;
 mod values;
 
-pub use asn_copy_trees::{
+pub use asn_copy_linked::{
     copy_asn1_information, copy_asn1_type, copy_asn1_value, copy_assigned_identifier, copy_choice,
     copy_choice_option, copy_choice_selection_type, copy_class_link, copy_constraint,
     copy_content_constraint, copy_definitive_identifier, copy_distinguished_value,

@@ -2,10 +2,10 @@
 
 ghost use Rattle.std.specs.Prelude.{◌≡◌, IfOk, Some, false, true};
 
-use asn_copy_trees::copy_asn1_value;
-use asn_markers::ExtensionMarker;
+use asn_copy_linked::copy_asn1_value;
 use asn_memory::Mem;
 use asn_tree::{ASN1Value, ValueConstraint};
+use asn_tree_leaves::ExtensionMarker;
 use std::alloc::Global;
 
 /// The constraints to a single value, which is both ends of a range.

@@ -2,7 +2,7 @@
 
 ghost use Rattle.std.specs.Prelude.{◌≡◌, IfOk};
 
-use asn_copy_trees::{
+use asn_copy_linked::{
     both, copy_asn1_type, copy_asn1_value, copy_constraints, copy_information_object_fields,
     copy_list, copy_object_field_identifier, copy_object_set, copy_text,
 };

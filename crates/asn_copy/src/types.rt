@@ -2,7 +2,7 @@
 
 ghost use Rattle.std.specs.Prelude.{◌≡◌, IfOk};
 
-use asn_copy_trees::{
+use asn_copy_linked::{
     both, copy_constraints, copy_distinguished_values, copy_enumeral, copy_list,
     copy_optional_text, copy_sequence_or_set_member, copy_text,
 };

@@ -2,7 +2,7 @@
 
 ghost use Rattle.std.specs.Prelude.{◌≡◌, IfOk};
 
-use asn_copy_trees::{boxed, copy_asn1_value};
+use asn_copy_linked::{boxed, copy_asn1_value};
 use asn_memory::Mem;
 use asn_tree::StructLikeFieldValue;
 use std::alloc::Global;

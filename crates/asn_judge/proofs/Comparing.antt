@@ -7,15 +7,15 @@ use Rattle.std.proofs.lemmas.Slice.Eq.{bytes_eq-Decides}
 use Rattle.std.proofs.lemmas.Str.{encodes-chars}
 use Rattle.std.proofs.Math.Utf8.{encodes}
 use Rattle.std.proofs.lemmas.List.{drop_more, drop_all, take_more}
-use Rattle.asn_headers.specs.declared.headers.ObjectIdentifierArc.{ObjectIdentifierArc}
-use Rattle.asn_headers.specs.declared.headers.ObjectIdentifierValue.{ObjectIdentifierValue}
-use Rattle.asn_words.specs.declared.plain.RealValue.{RealValue}
-use Rattle.asn_shapes.specs.declared.trees.Field.{Field, out-Field}
-use Rattle.asn_shapes.specs.declared.trees.Tree.{Tree}
-use Rattle.asn_shapes.specs.declared.trees.Tree.TheVariants as own
-use Rattle.asn_shapes.specs.Parts.{alternative_in, elements_in, fields_in}
-use Rattle.asn_shapes.specs.Trees.{Named, shown_fields, shown_tree, shown_trees}
-use Rattle.asn_shapes.proofs.Showing.{field_shown, null_shown, truth_shown, whole_shown, item_shown, real_shown, bits_shown, octets_shown, text_shown, arcs_shown, struct_shown, elements_shown, alternative_shown, opaque_shown}
+use Rattle.asn_tree_headers.specs.declared.headers.ObjectIdentifierArc.{ObjectIdentifierArc}
+use Rattle.asn_tree_headers.specs.declared.headers.ObjectIdentifierValue.{ObjectIdentifierValue}
+use Rattle.asn_tree_leaves.specs.declared.plain.RealValue.{RealValue}
+use Rattle.asn_meaning_shapes.specs.declared.trees.Field.{Field, out-Field}
+use Rattle.asn_meaning_shapes.specs.declared.trees.Tree.{Tree}
+use Rattle.asn_meaning_shapes.specs.declared.trees.Tree.TheVariants as own
+use Rattle.asn_meaning_shapes.specs.Parts.{alternative_in, elements_in, fields_in}
+use Rattle.asn_meaning_shapes.specs.Trees.{Named, shown_fields, shown_tree, shown_trees}
+use Rattle.asn_meaning_shapes.proofs.Showing.{field_shown, null_shown, truth_shown, whole_shown, item_shown, real_shown, bits_shown, octets_shown, text_shown, arcs_shown, struct_shown, elements_shown, alternative_shown, opaque_shown}
 use Rattle.asn_judge.specs.inner.Trees.{in_pairs, is_same_field, names_behind, seen}
 use Rattle.asn_meaning.specs.Rows.{arc_tree}
 use Rattle.asn_meaning.specs.Shapes.{is_null, is_opaque}

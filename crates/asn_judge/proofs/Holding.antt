@@ -2,14 +2,14 @@
 use Rattle.std.proofs.Common.{◌≡◌, ℕ, ◌+◌, ◌-◌, ◌<◌, ◌≤◌, suc, List, [], ◌∷◌, ◌++◌, drop, length, get_or, Bool, true, false, Option, Some, None, refl, sym, ap, ◌∙◌, arith}
 use Rattle.std.specs.Prelude.{map, pos, if◌then◌else◌}
 use Rattle.std.proofs.lemmas.List.{drop_more, drop_all}
-use Rattle.asn_kinds.specs.declared.constraints.SetOperator.{SetOperator}
-use Rattle.asn_kinds.specs.declared.constraints.SetOperator.TheVariants.{Intersection, Union, Except}
+use Rattle.asn_tree_kinds.specs.declared.constraints.SetOperator.{SetOperator}
+use Rattle.asn_tree_kinds.specs.declared.constraints.SetOperator.TheVariants.{Intersection, Union, Except}
 use Rattle.asn_tree.specs.declared.constraints.Constraint.{Constraint, out-Constraint}
 use Rattle.asn_tree.specs.declared.constraints.ElementOrSetOperation.{ElementOrSetOperation}
 use Rattle.asn_tree.specs.declared.constraints.SubtypeElement.{SubtypeElement, out-SubtypeElement}
-use Rattle.asn_ranges.specs.declared.chains.Chain.{Chain as LentChain}
-use Rattle.asn_ranges.specs.declared.chains.Joined.{Joined}
-use Rattle.asn_ranges.specs.Chains.{shown_chain, shown_joined}
+use Rattle.asn_meaning_ranges.specs.declared.chains.Chain.{Chain as LentChain}
+use Rattle.asn_meaning_ranges.specs.declared.chains.Joined.{Joined}
+use Rattle.asn_meaning_ranges.specs.Chains.{shown_chain, shown_joined}
 use Rattle.asn_judge.specs.inner.Characters.{characters_in}
 use Rattle.asn_judge.specs.inner.Judging.{character_holds, characters_hold, element_holds}
 use Rattle.asn_judge.specs.inner.Ranking.{Ranks, begun, joined, told}
@@ -23,8 +23,8 @@ use Rattle.asn_meaning.specs.Members.{element_place}
 use Rattle.asn_meaning.specs.Numbers.{Chain, Numbers, answers, numbers_from, ranked, ranked_from}
 use Rattle.asn_meaning.specs.Placed.{listed}
 use Rattle.asn_meaning.specs.Ranges.{all_constraints, codes_of, integer_named, is_free, narrowed, narrowed_by_all}
-use Rattle.asn_notation.specs.Types.{constraints_of}
-use Rattle.asn_ranges.proofs.Narrowing.{own_first}
+use Rattle.asn_tree_notation.specs.Types.{constraints_of}
+use Rattle.asn_meaning_ranges.proofs.Narrowing.{own_first}
 use Rattle.asn_meaning.specs.Scopes.{Place, Scope}
 use Rattle.asn_meaning.specs.Shapes.{list_judged}
 use Rattle.asn_meaning.specs.ValueTrees.{ValueTree, NullValue, TruthValue, WholeNumber, ItemNumber, RealNumber, Bits, Octets, Characters, ObjectIdentifierArcs, Struct, Elements, Alternative, Opaque, counted}

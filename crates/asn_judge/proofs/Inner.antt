@@ -4,8 +4,8 @@ use Rattle.std.specs.Prelude.{not, ◌||◌, if◌then◌else◌}
 use Rattle.std.specs.Str.{bytes_eq}
 use Rattle.asn_tree.specs.declared.types.ChoiceOption.{ChoiceOption}
 use Rattle.asn_judge.proofs.Listing.{ended, item_next, items_done}
-use Rattle.asn_shapes.specs.Parts.{alternative_in, fields_in}
-use Rattle.asn_shapes.specs.Trees.{Named}
+use Rattle.asn_meaning_shapes.specs.Parts.{alternative_in, fields_in}
+use Rattle.asn_meaning_shapes.specs.Trees.{Named}
 use Rattle.asn_meaning.specs.Answers.{Answer, Yes, No, Unknown, answer_of, both, each, once}
 use Rattle.asn_meaning.specs.Constraints.{choice_holds, is_absent_word, is_choice_allowed, is_listed, listed_member_holds, listed_option_holds, member_holds, members_hold, must_be_present, option_holds, part_holds, struct_holds}
 use Rattle.asn_meaning.specs.Layers.{InnerLayer, ListedLayer, OptionLayer}

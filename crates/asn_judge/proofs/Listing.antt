@@ -3,8 +3,8 @@ use Rattle.std.proofs.Common.{◌≡◌, ◌<◌, ◌≤◌, ℕ, ◌+◌, List,
 use Rattle.std.specs.Prelude.{◌||◌, not, is_none, is_some}
 use Rattle.std.specs.Str.{bytes_eq}
 use Rattle.std.proofs.lemmas.List.{drop_more, drop_all}
-use Rattle.asn_shapes.specs.declared.members.Member.{Member as LentMember}
-use Rattle.asn_shapes.specs.Members.{shown_member, shown_members}
+use Rattle.asn_meaning_shapes.specs.declared.members.Member.{Member as LentMember}
+use Rattle.asn_meaning_shapes.specs.Members.{shown_member, shown_members}
 use Rattle.asn_meaning.specs.Answers.{Answer, Yes, No, Unknown, both, each}
 use Rattle.asn_meaning.specs.Constraints.{is_left_out, is_listed}
 use Rattle.asn_meaning.specs.Layers.{InnerLayer, ListedLayer}

@@ -1,9 +1,9 @@
 -- Whether a type accepts a tree, by the targets that it passes on the way to its head.
 use Rattle.std.proofs.Common.{◌≡◌, ℕ, zero, suc, ◌+◌, ◌-◌, ◌<◌, ◌≤◌, List, [], length, Option, Some, None, refl, sym, subst, ap, ◌∙◌, arith}
 use Rattle.asn_tree.specs.declared.constraints.Constraint.{Constraint}
-use Rattle.asn_heads.specs.Trails.{Passes, constraints_at, place_at, trail}
-use Rattle.asn_heads.proofs.Leading.{head_at_more}
-use Rattle.asn_heads.proofs.Passing.{ends_at, head_at, leads_at, no_head_before, passed_few, target_at, unpassed}
+use Rattle.asn_meaning_heads.specs.Trails.{Passes, constraints_at, place_at, trail}
+use Rattle.asn_meaning_heads.proofs.Leading.{head_at_more}
+use Rattle.asn_meaning_heads.proofs.Passing.{ends_at, head_at, leads_at, no_head_before, passed_few, target_at, unpassed}
 use Rattle.asn_judge.proofs.Accepting.{accepted_headed, accepted_headless, accepts_suc, stands_as_head, stands_beyond}
 use Rattle.asn_meaning.specs.Answers.{Answer, Unknown, both}
 use Rattle.asn_meaning.specs.Constraints.{all_hold}

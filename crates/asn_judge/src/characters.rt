@@ -1,9 +1,9 @@
 //! The characters of texts, and the sets that string types have of them (X.680 41).
 
-ghost use Rattle.asn_heads.specs.Kinds.{shown_kind};
+ghost use Rattle.asn_meaning_heads.specs.Kinds.{shown_kind};
 ghost use Rattle.asn_judge.specs.inner.Characters.{character_in, characters_in, only_item};
-ghost use Rattle.asn_shapes.specs.Answers.{known};
-ghost use Rattle.asn_shapes.specs.Trees.{shown_tree};
+ghost use Rattle.asn_meaning_shapes.specs.Answers.{known};
+ghost use Rattle.asn_meaning_shapes.specs.Trees.{shown_tree};
 ghost use Rattle.asn_meaning.specs.Judge.{characters_at, in_set, is_within};
 ghost use Rattle.asn_meaning.specs.Ranges.{restricted};
 ghost use Rattle.asn_meaning.specs.ValueTrees.{Characters};
@@ -12,10 +12,10 @@ ghost use Rattle.std.specs.Option.{option_map};
 ghost use Rattle.std.specs.Prelude.{◌≡◌, ◌∷◌, [], IfOk, Some, nat_eq};
 ghost use Rattle.std.specs.Str.{bytes_eq, chars};
 
-use asn_heads::Kind;
+use asn_meaning_heads::Kind;
+use asn_meaning_ranges::restricted;
+use asn_meaning_shapes::{Answer, Tree, View};
 use asn_memory::{Mem, Text};
-use asn_ranges::restricted;
-use asn_shapes::{Answer, Tree, View};
 use asn_tree::CharacterStringType;
 use std::alloc::Global;
 
@@ -63,7 +63,7 @@ fn text_of_one(alloc: Global, character: char) -> Mem<Text>
 }
 
 /// A text as a tree.
-#[tactic(auto, using(asn_shapes::proofs::Showing::text_shown))]
+#[tactic(auto, using(asn_meaning_shapes::proofs::Showing::text_shown))]
 fn text_tree(text: Text) -> Tree
     ensures { shown_tree result ≡ Characters (chars text) }
 {

@@ -1,14 +1,14 @@
 //! What WITH COMPONENTS asks of the presence of parts (X.680 51.8.6 to 51.8.9).
 
-ghost use Rattle.asn_shapes.specs.Answers.{known};
-ghost use Rattle.asn_shapes.specs.Members.{shown_member, shown_members};
-ghost use Rattle.asn_shapes.specs.Trees.{shown_fields};
+ghost use Rattle.asn_meaning_shapes.specs.Answers.{known};
+ghost use Rattle.asn_meaning_shapes.specs.Members.{shown_member, shown_members};
+ghost use Rattle.asn_meaning_shapes.specs.Trees.{shown_fields};
 ghost use Rattle.asn_meaning.specs.Answers.{answer_of, each};
 ghost use Rattle.asn_meaning.specs.Constraints.{is_absent_word, is_choice_allowed, is_left_out, is_listed, must_be_present};
 ghost use Rattle.asn_meaning.specs.ValueTrees.{field_named};
 ghost use Rattle.std.specs.Prelude.{◌≡◌, ◌&&◌, ◌||◌, is_none, is_some, not};
 
-use asn_shapes::{Answer, Field, Member, find_field};
+use asn_meaning_shapes::{Answer, Field, Member, find_field};
 use asn_tree::{ComponentPresence, ConstrainedComponent, InnerTypeConstraint};
 
 /// Whether an alternative may be chosen, or not be: PRESENT asks that it is, ABSENT that it is not.

@@ -2,11 +2,11 @@
 //! left (X.680 50.1).
 
 ghost use Rattle.asn_judge.specs.inner.Ranking.{begun, joined, ranks_on, told};
-ghost use Rattle.asn_kinds.specs.declared.constraints.SetOperator.TheVariants.{Except, Intersection, Union};
-ghost use Rattle.asn_shapes.specs.Answers.{known};
+ghost use Rattle.asn_tree_kinds.specs.declared.constraints.SetOperator.TheVariants.{Except, Intersection, Union};
+ghost use Rattle.asn_meaning_shapes.specs.Answers.{known};
 ghost use Rattle.std.specs.Prelude.{◌≡◌};
 
-use asn_shapes::Answer;
+use asn_meaning_shapes::Answer;
 use asn_tree::SetOperator;
 
 /// What is said of the elements so far.

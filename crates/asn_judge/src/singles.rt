@@ -1,13 +1,13 @@
 //! Single values and ranges (X.680 51.2, 51.4).
 
-ghost use Rattle.asn_denotes.specs.Denotation.{shown_denotation};
-ghost use Rattle.asn_heads.specs.Places.{shown_place};
-ghost use Rattle.asn_heads.specs.Scopes.{shown};
+ghost use Rattle.asn_meaning_values.specs.Denotation.{shown_denotation};
+ghost use Rattle.asn_meaning_heads.specs.Places.{shown_place};
+ghost use Rattle.asn_meaning_heads.specs.Scopes.{shown};
 ghost use Rattle.asn_judge.specs.inner.Singles.{whole_in};
-ghost use Rattle.asn_ranges.specs.Parents.{shown_parent};
-ghost use Rattle.asn_ranges.specs.Sets.{shown_numbers};
-ghost use Rattle.asn_shapes.specs.Answers.{known};
-ghost use Rattle.asn_shapes.specs.Trees.{shown_tree};
+ghost use Rattle.asn_meaning_ranges.specs.Parents.{shown_parent};
+ghost use Rattle.asn_meaning_ranges.specs.Sets.{shown_numbers};
+ghost use Rattle.asn_meaning_shapes.specs.Answers.{known};
+ghost use Rattle.asn_meaning_shapes.specs.Trees.{shown_tree};
 ghost use Rattle.asn_meaning.specs.Constraints.{compared, is_value, number_asked, occurs, range_holds, side_holds, single_holds};
 ghost use Rattle.asn_meaning.specs.Judge.{meaning};
 ghost use Rattle.asn_meaning.specs.Ranges.{from_low, up_to_high, value_place};
@@ -16,12 +16,12 @@ ghost use Rattle.std.specs.Prelude.{◌≡◌, IfOk, ℕ, ◌+◌};
 
 use crate::characters::{characters_of, occurs_among, only_character, text_of};
 use crate::trees::same_tree;
-use asn_denotes::{Denotation, denotes, is_all};
-use asn_heads::{Place, Scope, ValueForm};
-use asn_index::Names;
+use asn_meaning_heads::{Place, Scope, ValueForm};
+use asn_meaning_ranges::{Numbers, Parent, from_low, up_to_high, value_place};
+use asn_meaning_shapes::{Answer, Tree, View};
+use asn_meaning_values::{Denotation, denotes, is_all};
 use asn_memory::Mem;
-use asn_ranges::{Numbers, Parent, from_low, up_to_high, value_place};
-use asn_shapes::{Answer, Tree, View};
+use asn_names_index::Names;
 use asn_tree::ASN1Value;
 use std::alloc::Global;
 

@@ -1,20 +1,20 @@
 //! The sizes of trees: whole numbers from 0 (X.680 51.5).
 
-ghost use Rattle.asn_heads.specs.Places.{shown_place};
-ghost use Rattle.asn_ranges.specs.Sets.{shown_numbers};
-ghost use Rattle.asn_shapes.specs.Trees.{shown_tree};
+ghost use Rattle.asn_meaning_heads.specs.Places.{shown_place};
+ghost use Rattle.asn_meaning_ranges.specs.Sets.{shown_numbers};
+ghost use Rattle.asn_meaning_shapes.specs.Trees.{shown_tree};
 ghost use Rattle.asn_meaning.specs.Numbers.{numbers_from};
 ghost use Rattle.asn_meaning.specs.Ranges.{integer_named};
 ghost use Rattle.asn_meaning.specs.ValueTrees.{WholeNumber};
 ghost use Rattle.std.specs.Option.{option_map};
 ghost use Rattle.std.specs.Prelude.{◌≡◌, None, Some, false, pos};
 
-use asn_heads::{Place, Scope, TypeForm};
-use asn_ranges::{Numbers, numbers_from};
-use asn_shapes::Tree;
+use asn_meaning_heads::{Place, Scope, TypeForm};
+use asn_meaning_ranges::{Numbers, numbers_from};
+use asn_meaning_shapes::Tree;
 
 /// A size as a tree.
-#[tactic(auto, using(asn_shapes::proofs::Showing::whole_shown))]
+#[tactic(auto, using(asn_meaning_shapes::proofs::Showing::whole_shown))]
 pub fn size_tree(size: usize) -> Tree
     ensures { shown_tree result ≡ WholeNumber (pos size) }
 {
@@ -22,7 +22,7 @@ pub fn size_tree(size: usize) -> Tree
 }
 
 /// The type of sizes.
-#[tactic(auto, using(asn_heads::proofs::Scoping::shown_nothing))]
+#[tactic(auto, using(asn_meaning_heads::proofs::Scoping::shown_nothing))]
 pub fn size_place<'a>() -> Place<'a>
     ensures { shown_place result ≡ integer_named None }
 {

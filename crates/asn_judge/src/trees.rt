@@ -1,17 +1,17 @@
 //! Whether two trees are one, and the size of a tree.
 
 ghost use Rattle.asn_judge.specs.inner.Trees.{arc_name, in_pairs, is_same_field, seen};
-ghost use Rattle.asn_shapes.specs.Trees.{shown_fields, shown_tree, shown_trees};
-ghost use Rattle.asn_shapes.specs.declared.trees.Field.{out-Field};
+ghost use Rattle.asn_meaning_shapes.specs.Trees.{shown_fields, shown_tree, shown_trees};
+ghost use Rattle.asn_meaning_shapes.specs.declared.trees.Field.{out-Field};
 ghost use Rattle.asn_meaning.specs.Rows.{arc_tree};
 ghost use Rattle.asn_meaning.specs.ValueTrees.{Alternative, Bits, Characters, Elements, ItemNumber, ObjectIdentifierArcs, Octets, RealNumber, Struct, TruthValue, WholeNumber, are_among, counted, field_names, is_among, same_arc, same_fields, same_number, same_tree, same_truth};
 ghost use Rattle.std.specs.Prelude.{◌≡◌, ◌≤◌, ◌&&◌, [], length, map, nat_eq};
 ghost use Rattle.std.specs.Str.{bytes_eq, chars};
 
-use asn_memory::{List, Text};
-use asn_shapes::{
+use asn_meaning_shapes::{
     Field, Tree, View, alternative_of, elements_of, fields_of, find_field, is_null, is_opaque,
 };
+use asn_memory::{List, Text};
 use asn_tree::{ObjectIdentifierArc, RealValue};
 
 /// How many characters a text has.
@@ -320,7 +320,7 @@ fn has_field(fields: &[Field], name: &str) -> bool
 }
 
 /// Whether each field has the name of one of these.
-#[tactic(auto, using(asn_shapes::proofs::Shaping::fields_in, asn_shapes::proofs::Shaping::fields_out, asn_shapes::proofs::Shaping::fields_done))]
+#[tactic(auto, using(asn_meaning_shapes::proofs::Shaping::fields_in, asn_meaning_shapes::proofs::Shaping::fields_out, asn_meaning_shapes::proofs::Shaping::fields_done))]
 fn have_names(fields: &[Field], others: &[Field]) -> bool
     ensures { result ≡ are_among (field_names (shown_fields fields.now)) (shown_fields others.now) }
 {

@@ -1,6 +1,6 @@
-pub mod Levels
-pub mod Gathering
-pub mod Counting
-pub mod Contents
-pub mod Places
-pub mod Layers
+mod Given
+mod Long
+mod Meaning
+mod Left
+mod ByName
+mod Making

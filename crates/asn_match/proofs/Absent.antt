@@ -3,7 +3,7 @@ use Rattle.std.proofs.Common.{◌≡◌, ℕ, ◌+◌, ◌<◌, ◌≤◌, List,
 use Rattle.asn_rules.specs.Expression.{Expression, seq, choice, many, never, guarded, rule, skip, rule_of}
 use Rattle.asn_rules.specs.Runs.{Ending, ends, fails, Runs, seq_ends, seq_fails, choice_first, choice_second, many_turn, many_idle, many_fails, never_ends, never_fails, guard_judges, guard_fails, calls, skips}
 use Rattle.asn_match.specs.Table.{Tries, itself, in_skipped, in_body, in_first, in_second, in_one, in_other, in_turn, in_later, in_never, in_guarded}
-use Rattle.asn_guards.specs.declared.asked.Guard.{Guard}
+use Rattle.asn_rules_guards.specs.declared.asked.Guard.{Guard}
 use Rattle.asn_rules.proofs.Theory.{one_outcome, runs_lies}
 
 module _ (rules : List Expression) (text : List ℕ) where

@@ -1,8 +1,8 @@
 -- What an expression comes to, by what its parts come to; and what a table has of its parts.
 use Rattle.std.proofs.Common.{◌≡◌, ℕ, ◌<◌, ◌≤◌, max, List, Bool, true, false, Some, length, sym, subst, arith}
 use Rattle.std.specs.Prelude.{if◌then◌else◌, IsSome, IfSome, slice_range}
-use Rattle.asn_guards.specs.Allows.{allows}
-use Rattle.asn_guards.specs.declared.asked.Guard.{Guard}
+use Rattle.asn_rules_guards.specs.Allows.{allows}
+use Rattle.asn_rules_guards.specs.declared.asked.Guard.{Guard}
 use Rattle.asn_rules.specs.Expression.{Expression, see, marked, seq, choice, many, never, guarded, rule, skip, Sight}
 use Rattle.asn_rules.specs.Runs.{Ending, ends, fails, seen, Runs, sees, sees_mark, seq_ends, seq_fails, choice_first, choice_second, many_turn, many_idle, many_fails, never_ends, never_fails, guard_judges, guard_fails, calls, skips}
 use Rattle.asn_rules.specs.declared.marks.Mark.{Mark}

@@ -8,7 +8,7 @@ use Rattle.asn_rules.specs.Runs.{Ending, ends, fails, Runs}
 use Rattle.asn_match.specs.Table.{at, Tries, itself, in_skipped, in_body, in_first, in_second, in_one, in_other, in_turn, in_later, in_never, in_guarded, Adds}
 use Rattle.asn_match.specs.Looks.{looks, own, total, Pairs, price, has, Covers, Spends}
 use Rattle.asn_match.specs.declared.chains.MatchTable.{MatchTable}
-use Rattle.asn_guards.specs.declared.asked.Guard.{Guard}
+use Rattle.asn_rules_guards.specs.declared.asked.Guard.{Guard}
 use Rattle.std.proofs.Math.Nat.{mul-le-mul_left, mul-le-mul_right}
 use Rattle.std.proofs.lemmas.Bool.Decides.{nat_tests}
 use Rattle.asn_rules.specs.Runs.{seen}

@@ -1,8 +1,8 @@
 -- How what ends came to its end, by which way its parts went.
 use Rattle.std.proofs.Common.{◌≡◌, ℕ, ◌+◌, ◌-◌, ◌<◌, ◌≤◌, List, [], ◌∷◌, ◌++◌, append_assoc, append-nil, Bool, true, false, length, refl, sym, subst, arith, ◌⊎◌, inl, inr}
 use Rattle.std.specs.Prelude.{if◌then◌else◌, slice_range}
-use Rattle.asn_guards.specs.Allows.{allows}
-use Rattle.asn_guards.specs.declared.asked.Guard.{Guard}
+use Rattle.asn_rules_guards.specs.Allows.{allows}
+use Rattle.asn_rules_guards.specs.declared.asked.Guard.{Guard}
 use Rattle.asn_rules.specs.Derives.{Derives, joins, leaves_mark, leaves_none, misses, node, passes, repeats, idles, stops, sees as derives_sees, stands}
 use Rattle.asn_rules.specs.Expression.{Expression, see, marked, seq, choice, many, never, guarded, rule, skip, rule_of, Sight}
 use Rattle.asn_rules.specs.Marks.{mark_number}

@@ -8,7 +8,7 @@ use Rattle.asn_rules.specs.inner.Answer.{answer, height_of, IsWithinOutcome, one
 use Rattle.asn_match.specs.inner.Given.{Gives}
 use Rattle.asn_match.specs.Table.{at, Sets, Tries, itself, in_skipped, in_body, in_first, in_second, in_one, in_other, in_turn, in_later, in_never, in_guarded, RunsTo, Holds, Adds}
 use Rattle.asn_match.specs.declared.chains.MatchTable.{MatchTable}
-use Rattle.asn_guards.specs.declared.asked.Guard.{Guard}
+use Rattle.asn_rules_guards.specs.declared.asked.Guard.{Guard}
 use Rattle.asn_rules.specs.declared.run.Outcome.{Outcome}
 use Rattle.asn_rules.specs.declared.run.Outcome.TheVariants.{End, Fail}
 use Rattle.asn_rules.specs.declared.run.MatchFault.{MatchFault}

@@ -2,7 +2,7 @@
 //!
 //! `grow.rt` asks here which way an expression went.
 
-ghost use Rattle.asn_guards.specs.Lexical.{sight};
+ghost use Rattle.asn_rules_guards.specs.Lexical.{sight};
 ghost use Rattle.asn_match.specs.Table.{at, Holds, RunsTo};
 ghost use Rattle.asn_match.specs.inner.Given.{EndsBehind, Enters};
 ghost use Rattle.asn_rules.specs.Expression.{expression, seq, choice, many, never, guarded};
@@ -13,8 +13,8 @@ ghost use Rattle.std.specs.Prelude.{◌≡◌, ◌≤◌, ◌+◌, length, IsSom
 
 use crate::chains::MatchTable;
 use crate::run::raised;
-use asn_guards::{is_allowed, stands_in, width_of};
 use asn_rules::{Expression, Grammar, Guard, Outcome, Sight};
+use asn_rules_guards::{is_allowed, stands_in, width_of};
 
 // What is seen at the offset.
 fn see(text: &[u8], look: &Sight, offset: usize) -> Outcome

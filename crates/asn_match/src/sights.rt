@@ -3,8 +3,8 @@
 ghost use Rattle.std.specs.Prelude.{◌≡◌, ◌≤◌, ◌+◌, ◌-◌, nat_eq, drop, length, slice_range, IfErr, IfOk, IsTrue, OnOk};
 ghost use Rattle.asn_rules.specs.declared.run.MatchFault.TheVariants.{OutOfMemory};
 ghost use Rattle.std.specs.List.{starts_with};
-ghost use Rattle.asn_guards.specs.Allows.{allows};
-ghost use Rattle.asn_guards.specs.Lexical.{is_alnum, sight, stands, width, word_ends};
+ghost use Rattle.asn_rules_guards.specs.Allows.{allows};
+ghost use Rattle.asn_rules_guards.specs.Lexical.{is_alnum, sight, stands, width, word_ends};
 ghost use Rattle.asn_match.specs.Looks.{looks};
 ghost use Rattle.asn_rules.specs.Runs.{seen};
 ghost use Rattle.asn_rules.specs.inner.Answer.{at_height};
@@ -148,5 +148,5 @@ pub(crate) fn is_allowed_at<L: Ledger>(
     ensures cost { steps.new ≤ steps.old + length text.now }
 {
     take(text, offset, end, taken, steps)?;
-    Ok(asn_guards::is_allowed(guard, taken.as_slice()))
+    Ok(asn_rules_guards::is_allowed(guard, taken.as_slice()))
 }

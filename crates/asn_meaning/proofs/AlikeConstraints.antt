@@ -4,8 +4,8 @@ use Rattle.std.specs.Option.{option_map}
 use Rattle.std.specs.Str.{bytes_eq}
 use Rattle.std.proofs.Common.{◌≡◌, ℕ, Bool, true, false, ◌&&◌, ◌||◌, List, [], ◌∷◌, map, Option, Some, None, refl, sym, subst, ap, ◌∙◌}
 use Rattle.asn_tree.specs.Passes.{constraint_parts, element_parts, operation_parts, set_parts, rewritten_option, rewritten_set}
-use Rattle.asn_kinds.specs.declared.constraints.ComponentPresence.{ComponentPresence}
-use Rattle.asn_kinds.specs.declared.constraints.ComponentPresence.TheVariants.{Absent, Present, Optional, Unspecified}
+use Rattle.asn_tree_kinds.specs.declared.constraints.ComponentPresence.{ComponentPresence}
+use Rattle.asn_tree_kinds.specs.declared.constraints.ComponentPresence.TheVariants.{Absent, Present, Optional, Unspecified}
 use Rattle.asn_tree.specs.declared.constraints.Constraint.{Constraint, Constraint-F, out-Constraint}
 use Rattle.asn_tree.specs.declared.constraints.ElementOrSetOperation.{ElementOrSetOperation, ElementOrSetOperation-F}
 use Rattle.asn_tree.specs.declared.constraints.SetOperation.{out-SetOperation}

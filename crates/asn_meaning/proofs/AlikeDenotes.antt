@@ -7,12 +7,12 @@ use Rattle.asn_tree.specs.declared.constraints.Parameter.{Parameter-F, out-Param
 use Rattle.asn_tree.specs.declared.definitions.ParameterGovernor.{ParameterGovernor}
 use Rattle.asn_tree.specs.declared.definitions.ParameterGovernor.TheVariants as governor
 use Rattle.asn_tree.specs.declared.definitions.ToplevelValueDefinition.{ToplevelValueDefinition}
-use Rattle.asn_headers.specs.declared.headers.ObjectIdentifierArc.{ObjectIdentifierArc}
+use Rattle.asn_tree_headers.specs.declared.headers.ObjectIdentifierArc.{ObjectIdentifierArc}
 use Rattle.asn_tree.specs.declared.objects.InformationObjectField.{InformationObjectField, InformationObjectField-F, out-InformationObjectField}
 use Rattle.asn_tree.specs.declared.types.ASN1Type.{ASN1Type}
 use Rattle.asn_tree.specs.declared.types.ASN1Type.TheVariants as type_of_kind
 use Rattle.asn_tree.specs.declared.types.ChoiceOption.{ChoiceOption}
-use Rattle.asn_kinds.specs.declared.types.DistinguishedValue.{DistinguishedValue}
+use Rattle.asn_tree_kinds.specs.declared.types.DistinguishedValue.{DistinguishedValue}
 use Rattle.asn_tree.specs.declared.values.ASN1Value.{ASN1Value}
 use Rattle.asn_tree.specs.declared.values.ASN1Value.TheVariants as value
 use Rattle.asn_meaning.specs.Answers.{No, Unknown, once, Denotation, Denoted, Nothing, Unsure, together, made_of, if_any, provided}

@@ -8,7 +8,7 @@ use Rattle.asn_tree.specs.declared.constraints.Constraint.{Constraint}
 use Rattle.asn_tree.specs.declared.constraints.ElementOrSetOperation.{ElementOrSetOperation}
 use Rattle.asn_tree.specs.declared.constraints.SubtypeElement.{SubtypeElement}
 use Rattle.asn_tree.specs.declared.types.ChoiceOption.{ChoiceOption}
-use Rattle.asn_kinds.specs.declared.types.ChoiceSelectionType.{ChoiceSelectionType}
+use Rattle.asn_tree_kinds.specs.declared.types.ChoiceSelectionType.{ChoiceSelectionType}
 use Rattle.asn_tree.specs.declared.types.SequenceOrSetMember.{SequenceOrSetMember}
 use Rattle.asn_tree.specs.declared.values.ASN1Value.{ASN1Value}
 use Rattle.asn_meaning.specs.Answers.{Answer, No, Unknown, answer_of, both, each, once}

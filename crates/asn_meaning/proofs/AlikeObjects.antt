@@ -7,7 +7,7 @@ use Rattle.std.proofs.Common.{◌≡◌, ℕ, ℤ, Bool, true, false, List, [], 
 use Rattle.std.specs.Prelude.{if◌then◌else◌}
 use Rattle.std.specs.Str.Parse.{digits_value}
 use Rattle.asn_tree.specs.Passes.{field_parts, fields_parts, item_parts, rewritten_field, rewritten_item, type_parts, value_parts}
-use Rattle.asn_kinds.specs.declared.objects.ObjectSetOver.{ObjectSetOver}
+use Rattle.asn_tree_kinds.specs.declared.objects.ObjectSetOver.{ObjectSetOver}
 use Rattle.asn_tree.specs.declared.values.ASN1Value.{ASN1Value}
 use Rattle.asn_tree.specs.declared.values.ASN1Value.TheVariants as value
 use Rattle.asn_tree.specs.declared.definitions.Parameterization.{Parameterization}
@@ -23,17 +23,17 @@ use Rattle.asn_tree.specs.declared.objects.InformationObjectClass.{InformationOb
 use Rattle.asn_tree.specs.declared.objects.InformationObjectField.{InformationObjectField, InformationObjectField-F, out-InformationObjectField}
 use Rattle.asn_tree.specs.declared.objects.InformationObjectField.TheVariants as gives
 use Rattle.asn_tree.specs.declared.objects.InformationObjectFields.{InformationObjectFields, InformationObjectFields-F, out-InformationObjectFields}
-use Rattle.asn_syntax.specs.declared.objects.InformationObjectSyntax.{InformationObjectSyntax}
-use Rattle.asn_syntax.specs.declared.objects.ObjectFieldIdentifier.{ObjectFieldIdentifier}
-use Rattle.asn_syntax.specs.declared.objects.ObjectFieldIdentifier.TheVariants.{SingleValue, MultipleValue}
+use Rattle.asn_tree_leaves.specs.declared.objects.InformationObjectSyntax.{InformationObjectSyntax}
+use Rattle.asn_tree_leaves.specs.declared.objects.ObjectFieldIdentifier.{ObjectFieldIdentifier}
+use Rattle.asn_tree_leaves.specs.declared.objects.ObjectFieldIdentifier.TheVariants.{SingleValue, MultipleValue}
 use Rattle.asn_tree.specs.declared.objects.SyntaxApplication.{SyntaxApplication, SyntaxApplication-F, out-SyntaxApplication}
-use Rattle.asn_syntax.specs.declared.objects.SyntaxExpression.{SyntaxExpression, SyntaxExpression-F, fold-roll-SyntaxExpression, ind-SyntaxExpression, map-SyntaxExpression}
-use Rattle.asn_syntax.specs.declared.objects.SyntaxToken.{SyntaxToken}
-use Rattle.asn_syntax.specs.declared.objects.SyntaxToken.TheVariants.{Literal, Comma, Field}
+use Rattle.asn_tree_leaves.specs.declared.objects.SyntaxExpression.{SyntaxExpression, SyntaxExpression-F, fold-roll-SyntaxExpression, ind-SyntaxExpression, map-SyntaxExpression}
+use Rattle.asn_tree_leaves.specs.declared.objects.SyntaxToken.{SyntaxToken}
+use Rattle.asn_tree_leaves.specs.declared.objects.SyntaxToken.TheVariants.{Literal, Comma, Field}
 use Rattle.asn_tree.specs.declared.types.ASN1Type.{ASN1Type}
 use Rattle.asn_tree.specs.declared.types.ASN1Type.TheVariants as type_of_kind
-use Rattle.asn_notation.specs.Paths.{field_name}
-use Rattle.asn_notation.specs.Syntax.{given_name, given_name_at, gives_type_at, gives_value_at, is_comma_at, is_word_at, later_tokens, matches, up_to_required}
+use Rattle.asn_tree_notation.specs.Paths.{field_name}
+use Rattle.asn_tree_notation.specs.Syntax.{given_name, given_name_at, gives_type_at, gives_value_at, is_comma_at, is_word_at, later_tokens, matches, up_to_required}
 use Rattle.asn_meaning.specs.Answers.{once}
 use Rattle.asn_meaning.specs.Definitions.{Definitions, type_in, type_named, value_in, value_named, unless_template, information_in, information_named, class_in, is_class, class_named, object_in, object_named}
 use Rattle.asn_meaning.specs.Layers.{FieldLayer, FieldsLayer, ItemLayer, ReferenceLayer}

@@ -6,13 +6,13 @@ use Rattle.std.proofs.Common.{◌≡◌, ◌↔◌, ℕ, zero, suc, Bool, false,
 use Rattle.asn_tree.specs.Passes.{constraint_parts, element_parts, struct_parts, rewritten_element, rewritten_member, rewritten_option, rewritten_set}
 use Rattle.asn_tree.specs.declared.constraints.Constraint.{Constraint, Constraint-F, out-Constraint}
 use Rattle.asn_tree.specs.declared.constraints.ElementOrSetOperation.{ElementOrSetOperation}
-use Rattle.asn_kinds.specs.declared.constraints.SetOperator.{SetOperator}
+use Rattle.asn_tree_kinds.specs.declared.constraints.SetOperator.{SetOperator}
 use Rattle.asn_tree.specs.declared.constraints.SubtypeElement.{SubtypeElement, SubtypeElement-F, out-SubtypeElement}
 use Rattle.asn_tree.specs.declared.types.ASN1Type.{ASN1Type}
 use Rattle.asn_tree.specs.declared.types.ChoiceOption.{ChoiceOption, out-ChoiceOption}
 use Rattle.asn_tree.specs.declared.types.SequenceOrSetMember.{SequenceOrSetMember, out-SequenceOrSetMember}
 use Rattle.asn_tree.specs.declared.values.ASN1Value.{ASN1Value}
-use Rattle.asn_notation.specs.Types.{constraints_of}
+use Rattle.asn_tree_notation.specs.Types.{constraints_of}
 use Rattle.asn_meaning.specs.Placed.{listed}
 use Rattle.asn_meaning.specs.Accepts.{place}
 use Rattle.asn_meaning.specs.Answers.{once}

@@ -5,13 +5,13 @@ use Rattle.std.proofs.Common.{◌≡◌, Bool, List, [], ◌∷◌, map, Option,
 use Rattle.asn_tree.specs.Passes.{constraint_parts, element_parts, type_parts, rewritten_element, rewritten_set}
 use Rattle.asn_tree.specs.declared.constraints.Constraint.{Constraint, Constraint-F, out-Constraint}
 use Rattle.asn_tree.specs.declared.constraints.ElementOrSetOperation.{ElementOrSetOperation}
-use Rattle.asn_kinds.specs.declared.constraints.SetOperator.{SetOperator}
-use Rattle.asn_kinds.specs.declared.constraints.SetOperator.TheVariants.{Intersection, Union, Except}
+use Rattle.asn_tree_kinds.specs.declared.constraints.SetOperator.{SetOperator}
+use Rattle.asn_tree_kinds.specs.declared.constraints.SetOperator.TheVariants.{Intersection, Union, Except}
 use Rattle.asn_tree.specs.declared.constraints.SubtypeElement.{SubtypeElement, SubtypeElement-F, out-SubtypeElement}
 use Rattle.asn_tree.specs.declared.types.ASN1Type.TheVariants as type_of_kind
-use Rattle.asn_kinds.specs.declared.types.DistinguishedValue.{DistinguishedValue}
+use Rattle.asn_tree_kinds.specs.declared.types.DistinguishedValue.{DistinguishedValue}
 use Rattle.asn_tree.specs.declared.values.ASN1Value.{ASN1Value}
-use Rattle.asn_notation.specs.Types.{constraints_of}
+use Rattle.asn_tree_notation.specs.Types.{constraints_of}
 use Rattle.asn_meaning.specs.Placed.{listed}
 use Rattle.asn_meaning.specs.Answers.{once, unless_all}
 use Rattle.asn_meaning.specs.Definitions.{Definitions}

@@ -6,12 +6,12 @@ use Rattle.asn_tree.specs.Tagging.{retag, retagged_definition, retagged_link}
 use Rattle.asn_tree.specs.declared.definitions.ToplevelDefinition.{ToplevelDefinition}
 use Rattle.asn_tree.specs.declared.definitions.ToplevelDefinition.TheVariants.{TypeDef, Value, Information}
 use Rattle.asn_tree.specs.declared.definitions.ToplevelTypeDefinition.{ToplevelTypeDefinition}
-use Rattle.asn_headers.specs.declared.headers.TaggingEnvironment.{TaggingEnvironment}
+use Rattle.asn_tree_headers.specs.declared.headers.TaggingEnvironment.{TaggingEnvironment}
 use Rattle.asn_tree.specs.declared.constraints.Constraint.{Constraint}
 use Rattle.asn_tree.specs.declared.constraints.ElementOrSetOperation.{out-ElementOrSetOperation}
 use Rattle.asn_tree.specs.declared.constraints.SubtypeElement.{out-SubtypeElement}
 use Rattle.asn_tree.specs.declared.types.ASN1Type.{ASN1Type}
-use Rattle.asn_notation.specs.Types.{constraints_of}
+use Rattle.asn_tree_notation.specs.Types.{constraints_of}
 use Rattle.asn_meaning.specs.Placed.{listed}
 use Rattle.asn_meaning.specs.Accepts.{place, judge, Accepts}
 use Rattle.asn_meaning.specs.Answers.{Answer, Yes, Unknown, both, once}

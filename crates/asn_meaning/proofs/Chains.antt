@@ -1,7 +1,7 @@
 -- Elements joined by operators: what joining keeps, a chain keeps.
 use Rattle.std.proofs.Common.{List, [], ◌∷◌}
-use Rattle.asn_kinds.specs.declared.constraints.SetOperator.{SetOperator}
-use Rattle.asn_kinds.specs.declared.constraints.SetOperator.TheVariants.{Intersection, Union, Except}
+use Rattle.asn_tree_kinds.specs.declared.constraints.SetOperator.{SetOperator}
+use Rattle.asn_tree_kinds.specs.declared.constraints.SetOperator.TheVariants.{Intersection, Union, Except}
 use Rattle.asn_tree.specs.declared.constraints.SubtypeElement.{SubtypeElement}
 use Rattle.asn_meaning.specs.Numbers.{Chain, Joining, ranked_from, ranked}
 

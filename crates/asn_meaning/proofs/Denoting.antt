@@ -5,8 +5,8 @@ use Rattle.std.specs.List.{find, list_all}
 use Rattle.std.specs.Str.{bytes_eq}
 use Rattle.std.proofs.Common.{◌≡◌, ℕ, zero, suc, ℤ, Bool, true, false, ◌&&◌, ◌||◌, List, [], ◌∷◌, map, Option, Some, None, refl, sym, subst, ap, ◌∙◌, arith}
 use Rattle.std.proofs.lemmas.Int.{ints}
-use Rattle.asn_kinds.specs.declared.types.DistinguishedValue.{DistinguishedValue}
-use Rattle.asn_kinds.specs.declared.types.Enumeral.{Enumeral}
+use Rattle.asn_tree_kinds.specs.declared.types.DistinguishedValue.{DistinguishedValue}
+use Rattle.asn_tree_kinds.specs.declared.types.Enumeral.{Enumeral}
 use Rattle.asn_tree.specs.declared.values.ASN1Value.{ASN1Value}
 use Rattle.asn_meaning.specs.Answers.{Answer, Yes, No, Unknown, answer_of, both, each, once, Denotation, Denoted, Nothing, Unsure, together, made_of, if_any, provided, Within}
 use Rattle.asn_meaning.specs.Braces.{elements_written, fields_written}

@@ -18,8 +18,8 @@ use Rattle.asn_tree.specs.declared.types.SequenceOrSetMember.{SequenceOrSetMembe
 use Rattle.asn_tree.specs.declared.types.SequenceOrSetOf.{SequenceOrSetOf}
 use Rattle.asn_tree.specs.declared.values.ASN1Value.{ASN1Value, ASN1Value-F, out-roll-ASN1Value, roll-ASN1Value, map-ASN1Value, ind-ASN1Value}
 use Rattle.asn_tree.specs.declared.values.LinkedField.{LinkedField, LinkedField-F, out-roll-LinkedField, roll-LinkedField, map-LinkedField}
-use Rattle.asn_kinds.specs.declared.values.StructLikeFieldValueOver.{StructLikeFieldValueOver}
-use Rattle.asn_kinds.specs.declared.values.StructLikeFieldValueOver.TheVariants.{Explicit, Implicit}
+use Rattle.asn_tree_kinds.specs.declared.values.StructLikeFieldValueOver.{StructLikeFieldValueOver}
+use Rattle.asn_tree_kinds.specs.declared.values.StructLikeFieldValueOver.TheVariants.{Explicit, Implicit}
 use Rattle.asn_tree.specs.Folds.{Algebra, constant, of_linked, of_value, linked_is, linked_read, value_is, value_read}
 use Rattle.asn_tree.specs.Passes.{linked_parts, linked_rewritten, value_parts, value_rewritten, rewritten_linked, rewritten_value}
 use Rattle.asn_meaning.specs.Layers.{LinkedLayer, ValueLayer}

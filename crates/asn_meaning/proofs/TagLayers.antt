@@ -17,9 +17,9 @@ use Rattle.asn_tree.specs.declared.types.SequenceOrSetMember.{SequenceOrSetMembe
 use Rattle.asn_tree.specs.declared.types.SequenceOrSetOf.{SequenceOrSetOf, out-SequenceOrSetOf, out-roll-SequenceOrSetOf}
 use Rattle.asn_tree.specs.declared.values.ASN1Value.{ASN1Value, ASN1Value-F, out-ASN1Value, out-roll-ASN1Value, roll-ASN1Value, roll-out-ASN1Value}
 use Rattle.asn_tree.specs.declared.values.LinkedField.{LinkedField, out-LinkedField, out-roll-LinkedField}
-use Rattle.asn_kinds.specs.declared.values.StructLikeFieldValueOver.{StructLikeFieldValueOver}
-use Rattle.asn_kinds.specs.declared.values.StructLikeFieldValueOver.TheVariants.{Explicit, Implicit}
-use Rattle.asn_notation.specs.Types.{constraints_at, constraints_of}
+use Rattle.asn_tree_kinds.specs.declared.values.StructLikeFieldValueOver.{StructLikeFieldValueOver}
+use Rattle.asn_tree_kinds.specs.declared.values.StructLikeFieldValueOver.TheVariants.{Explicit, Implicit}
+use Rattle.asn_tree_notation.specs.Types.{constraints_at, constraints_of}
 use Rattle.asn_meaning.specs.Placed.{listed}
 use Rattle.asn_meaning.specs.Kinds.{Kind, StructKind, ListKind, ChoiceKind, FieldKind, ReferenceKind, kind_at, kind_of_type}
 use Rattle.asn_meaning.specs.Layers.{ClassFieldLayer, LinkedLayer, MemberLayer, OptionLayer, ReferenceLayer, TypeLayer, ValueLayer}

@@ -1,6 +1,6 @@
 -- What a written value has between its braces (X.680 25.18, 26.3, 27.7, 28.3).
 use Rattle.std.specs.Prelude.{ℕ, ◌^◌, nat_lt, List, [], ◌∷◌, pos, Option, Some, None, if◌then◌else◌}
-use Rattle.asn_headers.specs.declared.headers.ObjectIdentifierArc.{ObjectIdentifierArc}
+use Rattle.asn_tree_headers.specs.declared.headers.ObjectIdentifierArc.{ObjectIdentifierArc}
 use Rattle.asn_tree.specs.declared.values.ASN1Value.{ASN1Value}
 use Rattle.asn_tree.specs.declared.values.ASN1Value.TheVariants as value
 use Rattle.asn_meaning.specs.Answers.{once}

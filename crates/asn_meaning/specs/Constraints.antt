@@ -2,8 +2,8 @@
 use Rattle.std.specs.Prelude.{ℕ, Bool, true, false, not, ◌&&◌, ◌||◌, List, [], ◌∷◌, ℤ, pos, is_none, is_some, Option, Some, None, if◌then◌else◌}
 use Rattle.std.specs.List.{list_any}
 use Rattle.std.specs.Str.{bytes_eq}
-use Rattle.asn_kinds.specs.declared.constraints.ComponentPresence.{ComponentPresence}
-use Rattle.asn_kinds.specs.declared.constraints.ComponentPresence.TheVariants.{Absent, Present, Optional, Unspecified}
+use Rattle.asn_tree_kinds.specs.declared.constraints.ComponentPresence.{ComponentPresence}
+use Rattle.asn_tree_kinds.specs.declared.constraints.ComponentPresence.TheVariants.{Absent, Present, Optional, Unspecified}
 use Rattle.asn_tree.specs.declared.constraints.Constraint.{Constraint, Constraint-F, out-Constraint}
 use Rattle.asn_tree.specs.declared.constraints.ElementOrSetOperation.{ElementOrSetOperation, ElementOrSetOperation-F}
 use Rattle.asn_tree.specs.declared.constraints.SetOperation.{out-SetOperation}

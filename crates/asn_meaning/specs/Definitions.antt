@@ -12,9 +12,9 @@ use Rattle.asn_tree.specs.declared.objects.ASN1Information.{ASN1Information}
 use Rattle.asn_tree.specs.declared.objects.ASN1Information.TheVariants.{ObjectClass, ObjectSet, Object}
 use Rattle.asn_tree.specs.declared.objects.InformationObject.{InformationObject}
 use Rattle.asn_tree.specs.declared.objects.InformationObjectClass.{InformationObjectClass}
-use Rattle.asn_syntax.specs.declared.objects.ObjectFieldIdentifier.TheVariants.{SingleValue, MultipleValue}
-use Rattle.asn_syntax.specs.declared.objects.SyntaxExpression.TheVariants as expression
-use Rattle.asn_syntax.specs.declared.objects.SyntaxToken.TheVariants as token
+use Rattle.asn_tree_leaves.specs.declared.objects.ObjectFieldIdentifier.TheVariants.{SingleValue, MultipleValue}
+use Rattle.asn_tree_leaves.specs.declared.objects.SyntaxExpression.TheVariants as expression
+use Rattle.asn_tree_leaves.specs.declared.objects.SyntaxToken.TheVariants as token
 use Rattle.asn_tree.specs.declared.types.ASN1Type.{ASN1Type}
 use Rattle.asn_tree.specs.declared.types.ASN1Type.TheVariants as type_of_kind
 use Rattle.asn_meaning.specs.Answers.{once}

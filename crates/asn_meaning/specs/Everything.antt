@@ -1,6 +1,6 @@
 -- ALL, and what stands for it.
 use Rattle.std.specs.Prelude.{ℕ, List, [], is_some, Option, Some, None, if◌then◌else◌}
-use Rattle.asn_words.specs.declared.plain.CharacterStringType.TheVariants.{UTF8String}
+use Rattle.asn_tree_leaves.specs.declared.plain.CharacterStringType.TheVariants.{UTF8String}
 use Rattle.asn_tree.specs.declared.types.ASN1Type.TheVariants as type_of_kind
 use Rattle.asn_meaning.specs.Answers.{Answer, Yes, No, Unknown, once}
 use Rattle.asn_meaning.specs.Definitions.{Definitions, value_named}

@@ -1,12 +1,12 @@
 -- The kinds of types. Each form of type is met here once, with an arm of its own: what follows speaks of kinds.
 use Rattle.std.specs.Prelude.{List, Option}
-use Rattle.asn_words.specs.declared.plain.CharacterStringType.{CharacterStringType}
+use Rattle.asn_tree_leaves.specs.declared.plain.CharacterStringType.{CharacterStringType}
 use Rattle.asn_tree.specs.declared.types.ASN1Type.{ASN1Type, ASN1Type-F, out-ASN1Type}
 use Rattle.asn_tree.specs.declared.types.Choice.{out-Choice}
 use Rattle.asn_tree.specs.declared.types.ChoiceOption.{ChoiceOption}
-use Rattle.asn_kinds.specs.declared.types.ChoiceSelectionType.{ChoiceSelectionType}
-use Rattle.asn_kinds.specs.declared.types.DistinguishedValue.{DistinguishedValue}
-use Rattle.asn_kinds.specs.declared.types.Enumeral.{Enumeral}
+use Rattle.asn_tree_kinds.specs.declared.types.ChoiceSelectionType.{ChoiceSelectionType}
+use Rattle.asn_tree_kinds.specs.declared.types.DistinguishedValue.{DistinguishedValue}
+use Rattle.asn_tree_kinds.specs.declared.types.Enumeral.{Enumeral}
 use Rattle.asn_tree.specs.declared.types.SequenceOrSet.{out-SequenceOrSet}
 use Rattle.asn_tree.specs.declared.types.SequenceOrSetOf.{out-SequenceOrSetOf}
 use Rattle.asn_meaning.specs.Layers.{ClassFieldLayer, ReferenceLayer, StructLayer, TypeLayer}

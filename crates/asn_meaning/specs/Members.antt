@@ -2,8 +2,8 @@
 use Rattle.std.specs.Prelude.{ℕ, suc, nat_eq, nat_le, Bool, false, not, ◌||◌, List, [], ◌∷◌, ◌++◌, map, ℤ, Option, Some, None, is_some, if◌then◌else◌}
 use Rattle.std.specs.List.{filter, find}
 use Rattle.std.specs.Str.{bytes_eq}
-use Rattle.asn_kinds.specs.declared.types.DistinguishedValue.{DistinguishedValue}
-use Rattle.asn_kinds.specs.declared.types.Enumeral.{Enumeral}
+use Rattle.asn_tree_kinds.specs.declared.types.DistinguishedValue.{DistinguishedValue}
+use Rattle.asn_tree_kinds.specs.declared.types.Enumeral.{Enumeral}
 use Rattle.asn_tree.specs.declared.types.SequenceOrSetMember.{SequenceOrSetMember, out-SequenceOrSetMember}
 use Rattle.asn_meaning.specs.Answers.{once}
 use Rattle.asn_meaning.specs.Kinds.{Kind, ListKind, StructKind, kind_of}

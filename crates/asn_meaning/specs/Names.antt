@@ -12,7 +12,7 @@ use Rattle.asn_tree.specs.declared.objects.InformationObjectField.{InformationOb
 use Rattle.asn_tree.specs.declared.types.ASN1Type.{ASN1Type}
 use Rattle.asn_tree.specs.declared.types.ASN1Type.TheVariants as type_of_kind
 use Rattle.asn_tree.specs.declared.types.ChoiceOption.{ChoiceOption, out-ChoiceOption}
-use Rattle.asn_kinds.specs.declared.types.ChoiceSelectionType.{ChoiceSelectionType}
+use Rattle.asn_tree_kinds.specs.declared.types.ChoiceSelectionType.{ChoiceSelectionType}
 use Rattle.asn_meaning.specs.Answers.{once}
 use Rattle.asn_meaning.specs.Definitions.{Definitions, type_named, is_class, class_named, object_named}
 use Rattle.asn_meaning.specs.Kinds.{Kind, ChoiceKind, FieldKind, ReferenceKind, SelectionKind, kind_of, kind_of_type}

@@ -1,8 +1,8 @@
 -- Sets of whole numbers, and elements joined by set operators (X.680 50.1).
 use Rattle.std.specs.Prelude.{Bool, true, false, not, ◌&&◌, ◌||◌, List, [], ◌∷◌, ◌++◌, ℤ, pos, ◌+ℤ◌, ◌-ℤ◌, int_le, int_lt, Option, Some, None, if◌then◌else◌}
 use Rattle.std.specs.List.{list_any}
-use Rattle.asn_kinds.specs.declared.constraints.SetOperator.{SetOperator}
-use Rattle.asn_kinds.specs.declared.constraints.SetOperator.TheVariants.{Intersection, Union, Except}
+use Rattle.asn_tree_kinds.specs.declared.constraints.SetOperator.{SetOperator}
+use Rattle.asn_tree_kinds.specs.declared.constraints.SetOperator.TheVariants.{Intersection, Union, Except}
 use Rattle.asn_tree.specs.declared.constraints.SubtypeElement.{SubtypeElement}
 use Rattle.asn_meaning.specs.Answers.{Answer, Yes, No, both, either, denied, once}
 use Rattle.asn_meaning.specs.ValueTrees.{same_number}

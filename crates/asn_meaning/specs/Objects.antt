@@ -9,17 +9,17 @@ use Rattle.asn_tree.specs.declared.objects.InformationObjectClassField.{Informat
 use Rattle.asn_tree.specs.declared.objects.InformationObjectField.{InformationObjectField}
 use Rattle.asn_tree.specs.declared.objects.InformationObjectField.TheVariants as gives
 use Rattle.asn_tree.specs.declared.objects.InformationObjectFields.{InformationObjectFields-F, out-InformationObjectFields}
-use Rattle.asn_syntax.specs.declared.objects.InformationObjectSyntax.{InformationObjectSyntax}
-use Rattle.asn_syntax.specs.declared.objects.ObjectFieldIdentifier.{ObjectFieldIdentifier}
-use Rattle.asn_syntax.specs.declared.objects.ObjectFieldIdentifier.TheVariants.{SingleValue, MultipleValue}
+use Rattle.asn_tree_leaves.specs.declared.objects.InformationObjectSyntax.{InformationObjectSyntax}
+use Rattle.asn_tree_leaves.specs.declared.objects.ObjectFieldIdentifier.{ObjectFieldIdentifier}
+use Rattle.asn_tree_leaves.specs.declared.objects.ObjectFieldIdentifier.TheVariants.{SingleValue, MultipleValue}
 use Rattle.asn_tree.specs.declared.objects.SyntaxApplication.{SyntaxApplication, SyntaxApplication-F, out-SyntaxApplication}
-use Rattle.asn_syntax.specs.declared.objects.SyntaxExpression.{SyntaxExpression, SyntaxExpression-F, fold-SyntaxExpression}
-use Rattle.asn_syntax.specs.declared.objects.SyntaxToken.{SyntaxToken}
-use Rattle.asn_syntax.specs.declared.objects.SyntaxToken.TheVariants.{Literal, Comma, Field}
+use Rattle.asn_tree_leaves.specs.declared.objects.SyntaxExpression.{SyntaxExpression, SyntaxExpression-F, fold-SyntaxExpression}
+use Rattle.asn_tree_leaves.specs.declared.objects.SyntaxToken.{SyntaxToken}
+use Rattle.asn_tree_leaves.specs.declared.objects.SyntaxToken.TheVariants.{Literal, Comma, Field}
 use Rattle.asn_tree.specs.declared.types.ASN1Type.TheVariants as type_of_kind
 use Rattle.asn_tree.specs.declared.values.ASN1Value.TheVariants as value
-use Rattle.asn_notation.specs.Paths.{field_name}
-use Rattle.asn_notation.specs.Syntax.{given_name, marked_optional, matches}
+use Rattle.asn_tree_notation.specs.Paths.{field_name}
+use Rattle.asn_tree_notation.specs.Syntax.{given_name, marked_optional, matches}
 use Rattle.asn_meaning.specs.Answers.{once}
 use Rattle.asn_meaning.specs.Definitions.{Definitions, class_named}
 use Rattle.asn_meaning.specs.Layers.{ItemLayer, FieldsLayer}

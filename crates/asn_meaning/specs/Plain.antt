@@ -10,9 +10,9 @@ use Rattle.asn_tree.specs.declared.types.ChoiceOption.{ChoiceOption, out-ChoiceO
 use Rattle.asn_tree.specs.declared.types.SequenceOrSetMember.{out-SequenceOrSetMember}
 use Rattle.asn_tree.specs.declared.values.ASN1Value.{ASN1Value, ASN1Value-F}
 use Rattle.asn_tree.specs.declared.values.LinkedField.{LinkedField-F}
-use Rattle.asn_kinds.specs.declared.values.StructLikeFieldValueOver.{StructLikeFieldValueOver}
-use Rattle.asn_kinds.specs.declared.values.StructLikeFieldValueOver.TheVariants.{Explicit, Implicit}
-use Rattle.asn_notation.specs.Types.{constraints_of}
+use Rattle.asn_tree_kinds.specs.declared.values.StructLikeFieldValueOver.{StructLikeFieldValueOver}
+use Rattle.asn_tree_kinds.specs.declared.values.StructLikeFieldValueOver.TheVariants.{Explicit, Implicit}
+use Rattle.asn_tree_notation.specs.Types.{constraints_of}
 use Rattle.asn_meaning.specs.Placed.{listed}
 use Rattle.asn_meaning.specs.Accepts.{place}
 use Rattle.asn_meaning.specs.Answers.{once}

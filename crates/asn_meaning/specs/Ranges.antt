@@ -4,13 +4,13 @@ use Rattle.std.specs.List.{list_any}
 use Rattle.asn_tree.specs.declared.constraints.Constraint.{Constraint, Constraint-F, out-Constraint}
 use Rattle.asn_tree.specs.declared.constraints.ElementOrSetOperation.{ElementOrSetOperation}
 use Rattle.asn_tree.specs.declared.constraints.SubtypeElement.{SubtypeElement-F, out-SubtypeElement}
-use Rattle.asn_words.specs.declared.plain.CharacterStringType.{CharacterStringType}
-use Rattle.asn_words.specs.declared.plain.CharacterStringType.TheVariants.{NumericString, PrintableString, VisibleString, IA5String, TeletexString, VideotexString, GraphicString, GeneralString, UniversalString, UTF8String, BMPString}
+use Rattle.asn_tree_leaves.specs.declared.plain.CharacterStringType.{CharacterStringType}
+use Rattle.asn_tree_leaves.specs.declared.plain.CharacterStringType.TheVariants.{NumericString, PrintableString, VisibleString, IA5String, TeletexString, VideotexString, GraphicString, GeneralString, UniversalString, UTF8String, BMPString}
 use Rattle.asn_tree.specs.declared.types.ASN1Type.TheVariants as type_of_kind
-use Rattle.asn_kinds.specs.declared.types.DistinguishedValue.{DistinguishedValue}
+use Rattle.asn_tree_kinds.specs.declared.types.DistinguishedValue.{DistinguishedValue}
 use Rattle.asn_tree.specs.declared.values.ASN1Value.{ASN1Value}
-use Rattle.asn_notation.specs.Strings.{characters}
-use Rattle.asn_notation.specs.Types.{constraints_of}
+use Rattle.asn_tree_notation.specs.Strings.{characters}
+use Rattle.asn_tree_notation.specs.Types.{constraints_of}
 use Rattle.asn_meaning.specs.Placed.{listed}
 use Rattle.asn_meaning.specs.Answers.{once, unless_all, Denotation, Denoted, Nothing, Unsure}
 use Rattle.asn_meaning.specs.Definitions.{Definitions}

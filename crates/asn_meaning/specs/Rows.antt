@@ -2,10 +2,10 @@
 use Rattle.std.specs.Prelude.{ℕ, suc, ◌+◌, ◌*◌, max, nat_eq, nat_le, Bool, true, false, List, [], ◌∷◌, map, ℤ, pos, negsuc, Option, Some, None, if◌then◌else◌}
 use Rattle.std.specs.List.{fold, list_any, range_with_len}
 use Rattle.std.specs.Str.{chars}
-use Rattle.asn_headers.specs.declared.headers.ObjectIdentifierArc.{ObjectIdentifierArc}
-use Rattle.asn_kinds.specs.declared.types.DistinguishedValue.{DistinguishedValue}
+use Rattle.asn_tree_headers.specs.declared.headers.ObjectIdentifierArc.{ObjectIdentifierArc}
+use Rattle.asn_tree_kinds.specs.declared.types.DistinguishedValue.{DistinguishedValue}
 use Rattle.asn_tree.specs.declared.values.ASN1Value.{ASN1Value}
-use Rattle.asn_notation.specs.Strings.{is_character}
+use Rattle.asn_tree_notation.specs.Strings.{is_character}
 use Rattle.asn_meaning.specs.Answers.{once}
 use Rattle.asn_meaning.specs.Braces.{all_unnamed, elements_written}
 use Rattle.asn_meaning.specs.Kinds.{Kind, NullKind, BooleanKind, IntegerKind, RealKind, BitStringKind, OctetStringKind, CharacterStringKind, TimeKind, EnumeratedKind, ObjectIdentifierKind, OpaqueKind, StructKind, ListKind, ChoiceKind, FieldKind, ReferenceKind, SelectionKind}

@@ -2,7 +2,7 @@
 use Rattle.std.specs.Prelude.{Bool, true, false, List, Option, Some, None}
 use Rattle.std.specs.List.{list_any}
 use Rattle.asn_tree.specs.declared.types.ChoiceOption.{ChoiceOption}
-use Rattle.asn_kinds.specs.declared.types.Enumeral.{Enumeral}
+use Rattle.asn_tree_kinds.specs.declared.types.Enumeral.{Enumeral}
 use Rattle.asn_meaning.specs.Answers.{Answer, Yes, No, Unknown, answer_of, both, each, once}
 use Rattle.asn_meaning.specs.Kinds.{Kind, NullKind, BooleanKind, IntegerKind, RealKind, BitStringKind, OctetStringKind, CharacterStringKind, TimeKind, EnumeratedKind, ObjectIdentifierKind, OpaqueKind, StructKind, ListKind, ChoiceKind, FieldKind, ReferenceKind, SelectionKind, kind_of}
 use Rattle.asn_meaning.specs.Layers.{OptionLayer}

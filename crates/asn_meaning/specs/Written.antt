@@ -1,11 +1,11 @@
 -- How values are written. Each form of value is met here once, with an arm of its own.
 use Rattle.std.specs.Prelude.{ℕ, Bool, ℤ, List, [], ◌∷◌, ◌++◌, Option}
-use Rattle.asn_headers.specs.declared.headers.ObjectIdentifierArc.{ObjectIdentifierArc}
-use Rattle.asn_words.specs.declared.plain.RealValue.{RealValue}
+use Rattle.asn_tree_headers.specs.declared.headers.ObjectIdentifierArc.{ObjectIdentifierArc}
+use Rattle.asn_tree_leaves.specs.declared.plain.RealValue.{RealValue}
 use Rattle.asn_tree.specs.declared.values.ASN1Value.{ASN1Value, ASN1Value-F, out-ASN1Value}
 use Rattle.asn_tree.specs.declared.values.LinkedField.{LinkedField, out-LinkedField}
-use Rattle.asn_kinds.specs.declared.values.StructLikeFieldValueOver.{StructLikeFieldValueOver}
-use Rattle.asn_kinds.specs.declared.values.StructLikeFieldValueOver.TheVariants.{Explicit, Implicit}
+use Rattle.asn_tree_kinds.specs.declared.values.StructLikeFieldValueOver.{StructLikeFieldValueOver}
+use Rattle.asn_tree_kinds.specs.declared.values.StructLikeFieldValueOver.TheVariants.{Explicit, Implicit}
 use Rattle.asn_meaning.specs.Layers.{LinkedLayer, ValueLayer}
 
 -- values with their names

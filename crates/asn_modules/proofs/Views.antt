@@ -8,7 +8,7 @@ use Rattle.asn_rules.specs.declared.names.TheConstants.{ASN1_TYPE, ASN1_VALUE, A
 use Rattle.asn_rules.specs.declared.node.Node.{Node}
 use Rattle.asn_rules.specs.declared.node.Node.TheViews.{out-Node}
 use Rattle.asn_rules.proofs.Children.{bounds, counts, has_child, has_nth}
-use Rattle.asn_literals.proofs.Views.{some_among, without}
+use Rattle.asn_read_nodes.proofs.Views.{some_among, without}
 use Rattle.asn_modules.proofs.Asked as asked
 
 -- of two rules of which a node always has one, it has the second where it lacks the first

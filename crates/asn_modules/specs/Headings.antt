@@ -4,8 +4,8 @@ use Rattle.asn_rules.specs.declared.names.TheConstants.{COMMENTS, PARAMETERIZATI
 use Rattle.asn_rules.specs.declared.node.Node.{Node}
 use Rattle.asn_rules.specs.Nodes.{child_of, the}
 use Rattle.asn_tree.specs.declared.definitions.Parameterization.{Parameterization}
-use Rattle.asn_header_readers.specs.Comments.{comments_of}
-use Rattle.asn_literals.specs.Parts.{if_there, name_of, of_some}
+use Rattle.asn_read_headers.specs.Comments.{comments_of}
+use Rattle.asn_read_nodes.specs.Parts.{if_there, name_of, of_some}
 use Rattle.asn_types.specs.Dummies.{parameterization_of}
 
 -- comments, a name, and parameters where some stand

@@ -9,8 +9,8 @@ use Rattle.asn_tree.specs.declared.objects.ASN1Information.TheVariants.{Object, 
 use Rattle.asn_tree.specs.declared.objects.ClassLink.{ClassLink}
 use Rattle.asn_tree.specs.declared.objects.ClassLink.TheVariants.{ByName}
 use Rattle.asn_tree.specs.declared.objects.InformationObjectClass.{InformationObjectClass}
-use Rattle.asn_literals.specs.Parts.{of_some}
-use Rattle.asn_pieces.specs.Fields.{capitals_of}
+use Rattle.asn_read_nodes.specs.Parts.{of_some}
+use Rattle.asn_read_pieces.specs.Fields.{capitals_of}
 use Rattle.asn_types.specs.Classes.{class_of, type_identifier}
 use Rattle.asn_types.specs.Reading.{object_of, object_set_of}
 use Rattle.asn_modules.specs.Headings.{Heading, heading_of}

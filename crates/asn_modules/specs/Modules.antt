@@ -1,14 +1,14 @@
 -- Modules and whole texts (X.680 13.1).
 use Rattle.std.specs.Prelude.{ℕ, List, Option, Some}
-use Rattle.asn_headers.specs.declared.headers.ModuleReference.{ModuleReference}
+use Rattle.asn_tree_headers.specs.declared.headers.ModuleReference.{ModuleReference}
 use Rattle.asn_rules.specs.declared.names.TheConstants.{ASN_MODULE, DEFINITION, MODULE_REFERENCE, TOP_LEVEL_INFORMATION_DECLARATION, TOP_LEVEL_TYPE_DECLARATION, TOP_LEVEL_VALUE_DECLARATION}
 use Rattle.asn_rules.specs.declared.node.Node.{Node}
 use Rattle.asn_rules.specs.declared.node.Node.TheViews.{out-Node}
 use Rattle.asn_rules.specs.Nodes.{at_child, at_children, child_of, the}
 use Rattle.asn_tree.specs.declared.definitions.ToplevelDefinition.{ToplevelDefinition}
 use Rattle.asn_tree.specs.declared.definitions.ToplevelDefinition.TheVariants.{Information, TypeDef, Value}
-use Rattle.asn_header_readers.specs.Headers.{header_of}
-use Rattle.asn_literals.specs.Parts.{all_some, of_some}
+use Rattle.asn_read_headers.specs.Headers.{header_of}
+use Rattle.asn_read_nodes.specs.Parts.{all_some, of_some}
 use Rattle.asn_modules.specs.Information.{information_of}
 use Rattle.asn_modules.specs.Types.{type_definition_of}
 use Rattle.asn_modules.specs.Values.{value_definition_of}

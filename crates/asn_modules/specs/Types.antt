@@ -1,13 +1,13 @@
 -- Definitions of types (X.680 16.1).
 use Rattle.std.specs.Prelude.{ℕ, List, Option, Some, None}
-use Rattle.asn_headers.specs.declared.headers.AsnTag.{AsnTag}
+use Rattle.asn_tree_headers.specs.declared.headers.AsnTag.{AsnTag}
 use Rattle.asn_rules.specs.declared.names.TheConstants.{ASN1_TYPE, ASN_TAG, TITLE_CASE_IDENTIFIER}
 use Rattle.asn_rules.specs.declared.node.Node.{Node}
 use Rattle.asn_rules.specs.Nodes.{child_of, the}
 use Rattle.asn_tree.specs.declared.definitions.ToplevelTypeDefinition.{ToplevelTypeDefinition}
 use Rattle.asn_tree.specs.declared.types.ASN1Type.{ASN1Type}
-use Rattle.asn_literals.specs.Parts.{if_there, of_some}
-use Rattle.asn_pieces.specs.Tags.{tag_of}
+use Rattle.asn_read_nodes.specs.Parts.{if_there, of_some}
+use Rattle.asn_read_pieces.specs.Tags.{tag_of}
 use Rattle.asn_types.specs.Reading.{type_of}
 use Rattle.asn_modules.specs.Headings.{Heading, heading_of}
 

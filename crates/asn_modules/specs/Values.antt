@@ -8,7 +8,7 @@ use Rattle.asn_tree.specs.declared.types.ASN1Type.{ASN1Type}
 use Rattle.asn_tree.specs.declared.values.ASN1Value.{ASN1Value}
 use Rattle.asn_tree.specs.declared.values.ASN1Value.TheVariants.{EnumeratedValue}
 use Rattle.asn_calls.specs.Types.{type_name}
-use Rattle.asn_literals.specs.Parts.{name_of, of_some}
+use Rattle.asn_read_nodes.specs.Parts.{name_of, of_some}
 use Rattle.asn_types.specs.Reading.{type_of}
 use Rattle.asn_values.specs.Braces.{value_of}
 use Rattle.asn_modules.specs.Headings.{Heading, heading_of}

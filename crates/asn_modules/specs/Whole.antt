@@ -1,6 +1,6 @@
 -- The reading of a whole text, and what is told of one that has none.
 use Rattle.std.specs.Prelude.{ℕ, List}
-use Rattle.asn_derivation.specs.Derivation.{IsMatchingErrorBy, IsReadingBy}
+use Rattle.asn_read_nodes.specs.Derivation.{IsMatchingErrorBy, IsReadingBy}
 use Rattle.asn_rules.specs.Due.{pieces_of}
 use Rattle.asn_rules.specs.Whole.{whole_rules}
 use Rattle.asn_rules.specs.declared.grammar.Grammar.TheVariants.{Whole}

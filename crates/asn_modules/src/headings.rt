@@ -1,6 +1,6 @@
 //! What stands before the assignment in each definition: comments, a name and parameters.
 
-ghost use Rattle.asn_literals.specs.Parts.{if_there};
+ghost use Rattle.asn_read_nodes.specs.Parts.{if_there};
 ghost use Rattle.asn_modules.specs.Headings.{heading_of};
 ghost use Rattle.asn_rules.specs.Children.{StandsBy};
 ghost use Rattle.asn_rules.specs.Nodes.{child_of};
@@ -9,9 +9,9 @@ ghost use Rattle.asn_rules.specs.declared.names.TheConstants.{COMMENTS, PARAMETE
 ghost use Rattle.asn_types.specs.Dummies.{parameterization_of};
 ghost use Rattle.std.specs.Prelude.{◌≡◌, IfOk, IsSome, Some};
 
-use asn_header_readers::read_comments;
-use asn_literals::read_name;
 use asn_memory::{Mem, Text};
+use asn_read_headers::read_comments;
+use asn_read_nodes::read_name;
 use asn_rules::{Node, names};
 use asn_tree::Parameterization;
 use asn_types::read_parameterization;

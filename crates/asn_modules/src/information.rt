@@ -8,7 +8,7 @@ ghost use Rattle.std.specs.Prelude.{◌≡◌, IfOk, Some};
 
 use crate::headings::read_heading;
 use asn_memory::{Mem, Text};
-use asn_pieces::read_class_name;
+use asn_read_pieces::read_class_name;
 use asn_rules::{Node, names};
 use asn_tree::{
     ASN1Information, ClassLink, InformationObject, InformationObjectClass, Parameterization,
@@ -37,7 +37,7 @@ fn definition(
 }
 
 /// The definition of an object: comments, a name, parameters, a class and the object (X.681 11.1).
-#[tactic(auto, using(crate::proofs::Views::object_has_comments, crate::proofs::Views::object_has_name, crate::proofs::Views::object_has_class, crate::proofs::Views::object_has_object, asn_literals::proofs::Views::identifier_has_blanks))]
+#[tactic(auto, using(crate::proofs::Views::object_has_comments, crate::proofs::Views::object_has_name, crate::proofs::Views::object_has_class, crate::proofs::Views::object_has_object, asn_read_nodes::proofs::Views::identifier_has_blanks))]
 fn read_object_definition(
     alloc: Global,
     text: &[u8],
@@ -55,7 +55,7 @@ fn read_object_definition(
 }
 
 /// The definition of an object set: comments, a name, parameters, a class and the set (X.681 12.1).
-#[tactic(auto, using(crate::proofs::Views::set_has_comments, crate::proofs::Views::set_has_name, crate::proofs::Views::set_has_class, crate::proofs::Views::set_has_set, asn_literals::proofs::Views::identifier_has_blanks))]
+#[tactic(auto, using(crate::proofs::Views::set_has_comments, crate::proofs::Views::set_has_name, crate::proofs::Views::set_has_class, crate::proofs::Views::set_has_set, asn_read_nodes::proofs::Views::identifier_has_blanks))]
 fn read_set_definition(
     alloc: Global,
     text: &[u8],
@@ -83,7 +83,7 @@ fn read_class_in(alloc: Global, text: &[u8], node: &Node) -> Mem<InformationObje
 }
 
 /// The definition of a class: comments, a name in capitals, parameters and the class (X.681 9.1).
-#[tactic(auto, using(crate::proofs::Views::class_has_comments, crate::proofs::Views::class_has_name, asn_pieces::proofs::Views::capitals_have_blanks))]
+#[tactic(auto, using(crate::proofs::Views::class_has_comments, crate::proofs::Views::class_has_name, asn_read_pieces::proofs::Views::capitals_have_blanks))]
 fn read_class_definition(
     alloc: Global,
     text: &[u8],

@@ -13,8 +13,8 @@ mod types;
 mod values;
 mod whole;
 
-pub use asn_derivation::SpecError;
-pub use asn_header_readers::module_reference;
+pub use asn_read_headers::module_reference;
+pub use asn_read_nodes::SpecError;
 pub use readers::{
     asn_module, enumerated_value, top_level_information_declaration, top_level_type_declaration,
     top_level_value_declaration,

@@ -9,12 +9,12 @@ ghost use Rattle.std.specs.Prelude.{◌≡◌, All, IfOk, Some};
 use crate::information::read_information;
 use crate::types::read_type_definition;
 use crate::values::read_value_definition;
-use asn_header_readers::read_header;
-use asn_headers::ModuleReference;
-use asn_literals::children;
 use asn_memory::{List, Mem};
+use asn_read_headers::read_header;
+use asn_read_nodes::children;
 use asn_rules::{Node, names};
 use asn_tree::{Reading, ToplevelDefinition};
+use asn_tree_headers::ModuleReference;
 use std::alloc::Global;
 
 /// A definition: of a class, an object or an object set, of a type, or of a value (X.680 16, X.681 9, 11, 12).
@@ -37,7 +37,7 @@ fn read_definition(alloc: Global, text: &[u8], node: &Node) -> Mem<ToplevelDefin
 }
 
 /// The definitions among the nodes.
-#[tactic(auto, using(asn_literals::proofs::Views::as_rule, asn_literals::proofs::Equations::takes_next, asn_literals::proofs::Equations::passes_next))]
+#[tactic(auto, using(asn_read_nodes::proofs::Views::as_rule, asn_read_nodes::proofs::Equations::takes_next, asn_read_nodes::proofs::Equations::passes_next))]
 fn read_definitions(alloc: Global, text: &[u8], nodes: &[Node]) -> Mem<List<ToplevelDefinition>>
     requires { All (StandsBy whole_rules text.now) nodes.now }
     ensures { IfOk result (λ definitions. definitions_in text.now nodes.now ≡ Some definitions) }
@@ -67,7 +67,7 @@ pub(crate) fn read_module(
 }
 
 /// The modules among the nodes.
-#[tactic(auto, using(asn_literals::proofs::Views::as_rule, asn_literals::proofs::Equations::takes_next, asn_literals::proofs::Equations::passes_next))]
+#[tactic(auto, using(asn_read_nodes::proofs::Views::as_rule, asn_read_nodes::proofs::Equations::takes_next, asn_read_nodes::proofs::Equations::passes_next))]
 pub(crate) fn read_modules(alloc: Global, text: &[u8], nodes: &[Node]) -> Mem<Reading>
     requires { All (StandsBy whole_rules text.now) nodes.now }
     ensures { IfOk result (λ read. modules_in text.now nodes.now ≡ Some read) }

@@ -4,7 +4,7 @@
 //! each answers `TooDeep` exactly where the height of its rule exceeds `depth`, and `Fail` exactly where it does not and
 //! the rule fails: a leaf with the input unchanged and the reader's name.
 
-ghost use Rattle.asn_literals.specs.Reads.{IsFaultAt, ReadsNode};
+ghost use Rattle.asn_read_nodes.specs.Reads.{IsFaultAt, ReadsNode};
 ghost use Rattle.asn_modules.specs.Information.{information_of};
 ghost use Rattle.asn_modules.specs.Modules.{module_of};
 ghost use Rattle.asn_modules.specs.Types.{type_definition_of};
@@ -18,15 +18,15 @@ use crate::information::read_information;
 use crate::modules::read_module;
 use crate::types::read_type_definition;
 use crate::values::{read_enumerated_value, read_value_definition};
-use asn_headers::ModuleReference;
-use asn_literals::read_node;
 use asn_memory::List;
+use asn_read_nodes::read_node;
 use asn_rules::names;
 use asn_text::{Input, ParseFault, ParserResult};
 use asn_tree::{
     ToplevelDefinition, ToplevelInformationDefinition, ToplevelTypeDefinition,
     ToplevelValueDefinition,
 };
+use asn_tree_headers::ModuleReference;
 use std::alloc::Global;
 
 /// The definition of a type: the comments before it joined by line feeds, its name, its parameters, its tag and its type (X.680

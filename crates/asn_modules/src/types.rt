@@ -1,8 +1,8 @@
 //! Definitions of types.
 
-ghost use Rattle.asn_literals.specs.Parts.{if_there};
+ghost use Rattle.asn_read_nodes.specs.Parts.{if_there};
 ghost use Rattle.asn_modules.specs.Types.{a_type_definition, type_definition_of};
-ghost use Rattle.asn_pieces.specs.Tags.{tag_of};
+ghost use Rattle.asn_read_pieces.specs.Tags.{tag_of};
 ghost use Rattle.asn_rules.specs.Children.{Is};
 ghost use Rattle.asn_rules.specs.Nodes.{child_of};
 ghost use Rattle.asn_rules.specs.Whole.{whole_rules};
@@ -10,11 +10,11 @@ ghost use Rattle.asn_rules.specs.declared.names.TheConstants.{ASN_TAG, TOP_LEVEL
 ghost use Rattle.std.specs.Prelude.{◌≡◌, IfOk, Some};
 
 use crate::headings::read_heading;
-use asn_headers::AsnTag;
 use asn_memory::{Mem, Text};
-use asn_pieces::read_tag;
+use asn_read_pieces::read_tag;
 use asn_rules::{Node, names};
 use asn_tree::{ASN1Type, Parameterization, ToplevelTypeDefinition};
+use asn_tree_headers::AsnTag;
 use asn_types::read_type;
 use std::alloc::Global;
 
@@ -49,7 +49,7 @@ fn type_definition(
 }
 
 /// A type definition: comments, a name, parameters, a tag and a type (X.680 16.1).
-#[tactic(auto, using(crate::proofs::Views::type_has_comments, crate::proofs::Views::type_has_name, crate::proofs::Views::type_has_type, asn_pieces::proofs::Views::title_has_blanks))]
+#[tactic(auto, using(crate::proofs::Views::type_has_comments, crate::proofs::Views::type_has_name, crate::proofs::Views::type_has_type, asn_read_pieces::proofs::Views::title_has_blanks))]
 pub(crate) fn read_type_definition(
     alloc: Global,
     text: &[u8],

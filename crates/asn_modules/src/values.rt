@@ -9,8 +9,8 @@ ghost use Rattle.std.specs.Prelude.{◌≡◌, IfOk, None, Some};
 
 use crate::headings::read_heading;
 use asn_calls::ASN1TypeCalls;
-use asn_literals::read_name;
 use asn_memory::{Mem, Text};
+use asn_read_nodes::read_name;
 use asn_rules::{Node, names};
 use asn_tree::{ASN1Type, ASN1Value, Parameterization, ToplevelValueDefinition};
 use asn_types::read_type;
@@ -37,7 +37,7 @@ fn value_definition(
 }
 
 /// The item that the second name is, under what the type is called.
-#[tactic(auto, using(crate::proofs::Views::enumerated_has_item, asn_literals::proofs::Views::name_has_blanks))]
+#[tactic(auto, using(crate::proofs::Views::enumerated_has_item, asn_read_nodes::proofs::Views::name_has_blanks))]
 fn read_item(alloc: Global, text: &[u8], node: &Node, ty: &ASN1Type) -> Mem<ASN1Value>
     requires { Is whole_rules text.now ENUMERATED_VALUE node.now }
     ensures { IfOk result (λ value. the (nth_child_of node.now VALUE_IDENTIFIER 1) (an_item text.now ty.now) ≡ Some value) }
@@ -51,7 +51,7 @@ fn read_item(alloc: Global, text: &[u8], node: &Node, ty: &ASN1Type) -> Mem<ASN1
 }
 
 /// A value definition whose value is the name of an item: comments, a name, parameters, a type and the item (X.680 20.8).
-#[tactic(auto, using(crate::proofs::Views::enumerated_has_comments, crate::proofs::Views::enumerated_has_name, crate::proofs::Views::enumerated_has_type, asn_literals::proofs::Views::name_has_blanks))]
+#[tactic(auto, using(crate::proofs::Views::enumerated_has_comments, crate::proofs::Views::enumerated_has_name, crate::proofs::Views::enumerated_has_type, asn_read_nodes::proofs::Views::name_has_blanks))]
 pub(crate) fn read_enumerated_value(
     alloc: Global,
     text: &[u8],
@@ -68,7 +68,7 @@ pub(crate) fn read_enumerated_value(
 }
 
 /// A value definition with a value of any form: comments, a name, parameters, a type and the value (X.680 16.2).
-#[tactic(auto, using(crate::proofs::Views::plain_has_comments, crate::proofs::Views::plain_has_name, crate::proofs::Views::plain_has_type, crate::proofs::Views::plain_has_value, asn_literals::proofs::Views::name_has_blanks))]
+#[tactic(auto, using(crate::proofs::Views::plain_has_comments, crate::proofs::Views::plain_has_name, crate::proofs::Views::plain_has_type, crate::proofs::Views::plain_has_value, asn_read_nodes::proofs::Views::name_has_blanks))]
 fn read_plain_value(alloc: Global, text: &[u8], node: &Node) -> Mem<ToplevelValueDefinition>
     requires is { Is whole_rules text.now TOP_LEVEL_VALUE_DECLARATION node.now }
     requires is_plain { child_of node.now ENUMERATED_VALUE ≡ None }

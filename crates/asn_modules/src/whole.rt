@@ -1,7 +1,7 @@
 //! Whole texts.
 
-ghost use Rattle.asn_derivation.specs.declared.errors.SpecError.TheVariants as fault;
-ghost use Rattle.asn_headers.specs.declared.headers.ModuleReference.{ModuleReference as OneHeader};
+ghost use Rattle.asn_read_nodes.specs.declared.errors.SpecError.TheVariants as fault;
+ghost use Rattle.asn_tree_headers.specs.declared.headers.ModuleReference.{ModuleReference as OneHeader};
 ghost use Rattle.asn_modules.specs.Whole.{IsMatchingError, IsReading};
 ghost use Rattle.asn_rules.specs.Valid.{Fails, IsDeeper, IsValid};
 ghost use Rattle.asn_rules.specs.Whole.{whole_rules};
@@ -10,7 +10,7 @@ ghost use Rattle.asn_tree.specs.declared.definitions.ToplevelDefinition.{Topleve
 ghost use Rattle.std.specs.Prelude.{◌≡◌, ℕ, List as Sequence, Err, IfOk};
 
 use crate::modules::read_modules;
-use asn_derivation::{SpecError, node_of};
+use asn_read_nodes::{SpecError, node_of};
 use asn_rules::{Grammar, one_tree};
 use asn_tree::Reading;
 use std::alloc::Global;

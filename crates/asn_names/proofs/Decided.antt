@@ -12,7 +12,7 @@ use Rattle.asn_tree.specs.declared.definitions.ToplevelTypeDefinition.{ToplevelT
 use Rattle.asn_tree.specs.declared.types.ASN1Type.{ASN1Type, ASN1Type-F, out-ASN1Type}
 use Rattle.asn_tree.specs.declared.types.SequenceOrSet.{out-SequenceOrSet}
 use Rattle.asn_tree.specs.declared.types.SequenceOrSetMember.{SequenceOrSetMember, out-SequenceOrSetMember}
-use Rattle.asn_notation.specs.Types.{constraints_at}
+use Rattle.asn_tree_notation.specs.Types.{constraints_at}
 use Rattle.asn_meaning.specs.Accepts.{place}
 use Rattle.asn_meaning.specs.Answers.{Answer, Unknown, both, each, once}
 use Rattle.asn_meaning.specs.Constraints.{all_hold}
@@ -32,15 +32,15 @@ use Rattle.asn_tree.specs.Layers.{TypeLayer}
 use Rattle.asn_needs.specs.Basic.{AreBasic, IsBasic, IsBasicDefinition, are_basic, basic_at, basic_member, basic_struct, has_no_names, is_basic}
 use Rattle.asn_needs.specs.Needs.{HasEdge, HasHeight, above, NameHasHeight}
 use Rattle.asn_needs.specs.Sites.{Seen, seen, Node, ToDefinition}
-use Rattle.asn_index.specs.Definitions.{is_named}
+use Rattle.asn_names_index.specs.Definitions.{is_named}
 use Rattle.asn_names.specs.Definitions.{Definitions, last_named, type_of}
 use Rattle.asn_names.specs.Decided.{HasHeights, IsDecidedIn, IsYesOrNo, steps_of, steps_of_fields}
 use Rattle.asn_names.specs.Faults.{HasTypes, is_missing, lacks_type}
 use Rattle.asn_names.specs.Occurrences.{names_of, Reaches, occurs, goes_on}
-use Rattle.asn_unchanged.specs.References.{names_in}
+use Rattle.asn_meaning_unchanged.specs.References.{names_in}
 use Rattle.asn_names.proofs.HeadEdges.{head_edge, no_lists}
 use Rattle.asn_names.proofs.Occurrences.{level_names, members_names, names_are, names_is}
-use Rattle.asn_index.proofs.Seen.{or_else, type_is_last, type_is_seen}
+use Rattle.asn_names_index.proofs.Seen.{or_else, type_is_last, type_is_seen}
 use Rattle.asn_names.proofs.Settled.{AlwaysLeadsTo, IsAlwaysHead, IsThere, OwnBasic, Settled, all_known_from, answer_known, basic_append, before_further, before_head, both_known, both_true, settled_further, settled_head}
 
 -- ---- definitions

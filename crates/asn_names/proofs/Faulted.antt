@@ -36,11 +36,11 @@ use Rattle.asn_needs.proofs.Passing.{none_passes, passes, some_passes}
 use Rattle.asn_names.specs.declared.faults.Fault.{Fault as Warned}
 use Rattle.asn_names.specs.declared.faults.Fault.TheVariants as warned
 use Rattle.asn_names.specs.Definitions.{Definitions, last_named}
-use Rattle.asn_names.specs.Faults.{HasFault, is_judged, stays_as_read, first_fault, is_missing}
+use Rattle.asn_names.specs.Faults.{HasFault, fault_by, first_at_places, for_places, is_missing, stays_as_read}
 use Rattle.asn_names.specs.Laws.{FaultsStand}
 use Rattle.asn_names.specs.Needed.{stands_as, type_occurrence}
-use Rattle.asn_unchanged.specs.References.{names_in}
-use Rattle.asn_unchanged.specs.Unchanged.{is_unchanged}
+use Rattle.asn_meaning_unchanged.specs.References.{names_in}
+use Rattle.asn_meaning_unchanged.specs.Unchanged.{is_unchanged}
 use Rattle.asn_names.proofs.Faultless.{one_fault}
 use Rattle.asn_names.proofs.Following.{basic_follows_none}
 use Rattle.asn_names.proofs.Decided.{of_last}
@@ -314,14 +314,26 @@ module _ (stay : HeadsStay) (defs : Definitions) (basic : AreBasic defs) (n : �
   missing_told : IsSomewhere S (ToDefinition name) name_missing ↔ (list_any (is_missing defs) (names_in d.ty) ≡ true)
   missing_told = (missing_found, found_missing)
 
+  form_told : IsSomewhere S (ToDefinition name) unsupported ↔ (false ≡ true)
+  form_told = (λ h. absurd (no_form h), λ e. absurd cc)
+
 -- ---- whatever the number of steps
 
 -- the fault of a definition that linking leaves as it is
 fault_found : HeadsStay → (defs : Definitions) → AreBasic defs → (name : List ℕ) (d : ToplevelTypeDefinition) (linked : Bool) → last_named defs name ≡ Some (TypeDef d) → IsBasicDefinition (TypeDef d) → is_unchanged (TypeDef d) ≡ true →
     HasFault defs name (TypeDef d) linked (if list_any (is_missing defs) (names_in d.ty) then Some warned.MissingDependency else None)
 fault_found stay defs basic name d linked is b unchanged =
-    is_judged false (list_any (is_missing defs) (names_in d.ty)) (inl (unchanged, basic_follows_none defs name d is b)) (0, λ m. argument_told stay defs basic (0 + m) name d is b) (0, λ m. missing_told stay defs basic (0 + m) name d is b)
-    (sym (ap (λ b. first_fault false (list_any (is_missing defs) (names_in d.ty)) (b || (stays_as_read (TypeDef d) || linked))) unchanged))
+    record {
+      judgement = first_at_places false (list_any (is_missing defs) (names_in d.ty)) false;
+      told =
+          for_places false (list_any (is_missing defs) (names_in d.ty)) false (inl (unchanged, basic_follows_none defs name d is b))
+          (0, λ m. argument_told stay defs basic (0 + m) name d is b) (0, λ m. missing_told stay defs basic (0 + m) name d is b) (0, λ m. form_told stay defs basic (0 + m) name d is b) refl;
+      so = by_settled (list_any (is_missing defs) (names_in d.ty)) ∙ sym (ap (λ b. fault_by (first_at_places false (list_any (is_missing defs) (names_in d.ty)) false) (b || (stays_as_read (TypeDef d) || linked))) unchanged);
+    }
+  where
+    by_settled : (missing : Bool) → (if missing then Some warned.MissingDependency else None) ≡ fault_by (first_at_places false missing false) true
+    by_settled true = refl
+    by_settled false = refl
 
 pub faults_stand : HeadsStay → FaultsStand
 faults_stand stay defs basic name (Value d) linked is unchanged acyclic ordered k = absurd (of_last IsBasicDefinition defs basic name (Value d) is)

@@ -17,8 +17,8 @@ use Rattle.asn_tree.specs.Folds.{constraint_is, constraint_read, element_is, ele
 use Rattle.asn_meaning.specs.Layers.{ValueLayer}
 use Rattle.asn_meaning.specs.Written.{as_written, written_at}
 use Rattle.asn_needs.specs.Basic.{are_basic, basic_at, basic_constraint, basic_element, basic_member, basic_set, basic_struct, has_no_names, is_basic, is_number, IsBasicDefinition}
-use Rattle.asn_references.specs.References.{constraint_names, definition_names, each_name, element_names, followed_of, joined, member_names, name_in, names_in, names_in_constraint, names_in_element, names_in_member, names_in_set, names_in_value, naming, parameter_names, set_names, type_names, value_names, within}
-use Rattle.asn_circles.specs.Circles.{FollowsNoCircle}
+use Rattle.asn_names_references.specs.References.{constraint_names, definition_names, each_name, element_names, followed_of, joined, member_names, name_in, names_in, names_in_constraint, names_in_element, names_in_member, names_in_set, names_in_value, naming, parameter_names, set_names, type_names, value_names, within}
+use Rattle.asn_names_circles.specs.Circles.{FollowsNoCircle}
 use Rattle.asn_names.specs.Definitions.{Definitions, last_named}
 use Rattle.asn_names.specs.Layers.{ConstraintLayer, ElementLayer, SetLayer, StructLayer, TypeLayer}
 

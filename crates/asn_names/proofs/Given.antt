@@ -4,11 +4,11 @@ use Rattle.std.specs.Prelude.{if◌then◌else◌}
 use Rattle.std.specs.Str.{bytes_eq}
 use Rattle.asn_tree.specs.declared.definitions.ToplevelDefinition.{ToplevelDefinition}
 use Rattle.asn_tree.specs.declared.definitions.ToplevelDefinition.TheVariants.{TypeDef, Value, Information}
-use Rattle.asn_headers.specs.declared.headers.TaggingEnvironment.{TaggingEnvironment}
-use Rattle.asn_index.specs.Definitions.{name_of, is_named}
+use Rattle.asn_tree_headers.specs.declared.headers.TaggingEnvironment.{TaggingEnvironment}
+use Rattle.asn_names_index.specs.Definitions.{name_of, is_named}
 use Rattle.asn_names.specs.Definitions.{Definitions, Module, definitions_of, last_named}
 use Rattle.asn_names.specs.Given.{IsGiven, given, given_from, given_since, given_definitions}
-use Rattle.asn_index.proofs.Seen.{last_append, or_else}
+use Rattle.asn_names_index.proofs.Seen.{last_append, or_else}
 
 or_else_given : (a b c d : Option ToplevelDefinition) → IsGiven a b → IsGiven c d → IsGiven (or_else a c) (or_else b d)
 or_else_given None None c d p q = q

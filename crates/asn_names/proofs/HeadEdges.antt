@@ -25,8 +25,8 @@ use Rattle.asn_needs.specs.Followed.{to_name}
 use Rattle.asn_needs.specs.Needs.{HasEdge, IsNode, nodes, nodes_in}
 use Rattle.asn_needs.specs.Sites.{Seen, seen, Site, AtHead, AType, Node, ToDefinition}
 use Rattle.asn_needs.specs.Stands.{at_first, dummies_of, first_sites, node_sites, outermost}
-use Rattle.asn_index.specs.Definitions.{Definitions, is_named, last_named, name_of}
-use Rattle.asn_index.proofs.Seen.{or_else, type_is_last}
+use Rattle.asn_names_index.specs.Definitions.{Definitions, is_named, last_named, name_of}
+use Rattle.asn_names_index.proofs.Seen.{or_else, type_is_last}
 use Rattle.asn_names.proofs.Settled.{both_true}
 
 -- ---- no argument lists

@@ -6,7 +6,7 @@ use Rattle.asn_tree.specs.declared.definitions.ToplevelDefinition.TheVariants.{T
 use Rattle.asn_needs.specs.Occurrences.{OccursIn, names_at}
 use Rattle.asn_needs.specs.Sites.{seen, ToDefinition}
 use Rattle.asn_names.specs.Laws.{NamesOccur}
-use Rattle.asn_unchanged.specs.References.{names_in, names_of}
+use Rattle.asn_meaning_unchanged.specs.References.{names_in, names_of}
 use Rattle.asn_names.specs.Needed.{type_occurrence}
 use Rattle.asn_names.proofs.Places.{IsNamed, name_occurs, place_names}
 

@@ -18,7 +18,7 @@ use Rattle.asn_tree.specs.Folds.{constraint_is, constraint_read, element_is, ele
 use Rattle.asn_needs.specs.Basic.{are_basic, basic_at, basic_constraint, basic_element, basic_member, basic_set, basic_struct, has_no_names, is_basic}
 use Rattle.asn_names.specs.Definitions.{type_of}
 use Rattle.asn_names.specs.Layers.{ConstraintLayer, ElementLayer, SetLayer, StructLayer, TypeLayer}
-use Rattle.asn_unchanged.specs.References.{Names, constraint_names, element_names, joined, names_in, names_in_constraint, names_in_element, names_in_member, names_in_set, names_of, naming, own_name, set_names, type_names}
+use Rattle.asn_meaning_unchanged.specs.References.{Names, constraint_names, element_names, joined, names_in, names_in_constraint, names_in_element, names_in_member, names_in_set, names_of, naming, own_name, set_names, type_names}
 
 -- the names in the types of members
 abbrev pub members_names : List SequenceOrSetMember → Names

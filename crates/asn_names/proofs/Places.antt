@@ -13,7 +13,7 @@ use Rattle.asn_tree.specs.declared.types.SequenceOrSet.{SequenceOrSet, out-Seque
 use Rattle.asn_tree.specs.declared.types.SequenceOrSetMember.{SequenceOrSetMember, out-SequenceOrSetMember}
 use Rattle.asn_tree.specs.declared.values.ASN1Value.{ASN1Value}
 use Rattle.asn_tree.specs.Layers.{SetLayer, TypeLayer}
-use Rattle.asn_notation.specs.Types.{constraints_at}
+use Rattle.asn_tree_notation.specs.Types.{constraints_at}
 use Rattle.asn_meaning.specs.Accepts.{place}
 use Rattle.asn_meaning.specs.Answers.{once}
 use Rattle.asn_meaning.specs.Definitions.{type_named}
@@ -35,7 +35,7 @@ use Rattle.asn_needs.specs.PartsOfValues.{free_parts, governed_parts, headless_p
 use Rattle.asn_needs.specs.Sites.{Seen, seen, Site, beside, each_of, Form, TypePlace, AtHead, InPlace, AsEnd, AsSuch, Asked, OfValues, AType, ComponentsOf, AValue, AConstraint, ASet, AnElement, ToDefinition}
 use Rattle.asn_needs.specs.Stands.{IsPlaceOf, StandsIn, at_first, dummy_forms, first_sites, node_sites, outermost, parts, parts_at, within}
 use Rattle.asn_names.specs.Definitions.{Definitions, last_named}
-use Rattle.asn_unchanged.specs.References.{names_in}
+use Rattle.asn_meaning_unchanged.specs.References.{names_in}
 use Rattle.asn_names.specs.Needed.{type_occurrence}
 use Rattle.asn_names.proofs.HeadEdges.{no_lists}
 use Rattle.asn_names.proofs.Occurrences.{level_names, members_names, names_is}

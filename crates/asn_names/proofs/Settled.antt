@@ -1,7 +1,7 @@
 -- What types of basic forms lead to, and what is known of ranges of numbers, within how many steps.
 use Rattle.std.proofs.Common.{◌≡◌, ℕ, zero, suc, ◌+◌, ◌≤◌, List, [], ◌∷◌, ◌++◌, Bool, true, false, Option, Some, None, refl, ap, ◌∙◌, arith}
 use Rattle.std.specs.Prelude.{◌&&◌, if◌then◌else◌, ℤ}
-use Rattle.asn_kinds.specs.declared.types.DistinguishedValue.{DistinguishedValue}
+use Rattle.asn_tree_kinds.specs.declared.types.DistinguishedValue.{DistinguishedValue}
 use Rattle.asn_tree.specs.declared.constraints.Constraint.{Constraint, Constraint-F, out-Constraint}
 use Rattle.asn_tree.specs.declared.constraints.ElementOrSetOperation.{ElementOrSetOperation, ElementOrSetOperation-F, out-ElementOrSetOperation}
 use Rattle.asn_tree.specs.declared.constraints.SubtypeElement.{SubtypeElement, SubtypeElement-F, out-SubtypeElement}
@@ -23,7 +23,7 @@ use Rattle.asn_meaning.specs.Numbers.{Numbers, above_least, answers, below_great
 use Rattle.asn_meaning.specs.Ranges.{all_constraints, beside, end_denoted, from_low, up_to_high, integer_named, is_free, narrowed, narrowed_at, narrowed_by_all, named_numbers_in, numbers_at_element, numbers_at_head, numbers_before, numbers_from_lead, numbers_in_set, parent_end, range, whole_number}
 use Rattle.asn_meaning.specs.Placed.{listed}
 use Rattle.asn_meaning.specs.Rows.{row}
-use Rattle.asn_notation.specs.Types.{constraints_of}
+use Rattle.asn_tree_notation.specs.Types.{constraints_of}
 use Rattle.asn_meaning.specs.Scopes.{Scope, Empty, Place, bare}
 use Rattle.asn_meaning.specs.ValueTrees.{ValueTree, Opaque, WholeNumber}
 use Rattle.asn_meaning.specs.Written.{Written, NumberWritten, as_written}

@@ -12,7 +12,7 @@ use Rattle.std.proofs.lemmas.Map.Text.{is_eq-slice_cmp}
 use Rattle.std.proofs.lemmas.Slice.Eq.{bytes_eq-Decides}
 use Rattle.asn_tree.specs.declared.definitions.ToplevelDefinition.{ToplevelDefinition}
 use Rattle.asn_tree.specs.declared.definitions.ToplevelDefinition.TheVariants.{Information}
-use Rattle.asn_syntax.specs.declared.objects.ObjectFieldIdentifier.TheVariants.{SingleValue, MultipleValue}
+use Rattle.asn_tree_leaves.specs.declared.objects.ObjectFieldIdentifier.TheVariants.{SingleValue, MultipleValue}
 use Rattle.asn_tree.specs.Passes.{type_parts}
 use Rattle.asn_tree.specs.declared.objects.ASN1Information.TheVariants.{ObjectClass}
 use Rattle.asn_tree.specs.declared.types.ASN1Type.{ASN1Type}
@@ -21,13 +21,13 @@ use Rattle.asn_meaning.specs.Definitions.{built_in, plain_identifier, type_ident
 use Rattle.asn_meaning.specs.Laws.{EnvironmentsChangeTags}
 use Rattle.asn_meaning.specs.Tags.{BothAlike, IsRetagged, TagChange, tagged, tagging}
 use Rattle.asn_meaning.proofs.TagLayers.{type_by_level}
-use Rattle.asn_index.specs.Definitions.{is_named, name_of, IsStanding}
+use Rattle.asn_names_index.specs.Definitions.{is_named, name_of, IsStanding}
 use Rattle.asn_names.specs.Definitions.{Definitions, Module, definitions_of, last_named}
 use Rattle.asn_names.specs.Given.{IsGiven, given_definitions}
 use Rattle.asn_names.specs.Laws.{GivenDifferInTags}
 use Rattle.asn_names.specs.Standing.{AreGiven, IsDefined}
 use Rattle.asn_names.proofs.Given.{last_given}
-use Rattle.asn_index.proofs.Seen.{or_else}
+use Rattle.asn_names_index.proofs.Seen.{or_else}
 
 -- ---- in order, each name stands once
 

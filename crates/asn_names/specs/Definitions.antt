@@ -3,7 +3,7 @@ use Rattle.std.specs.Prelude.{List, [], ◌∷◌, ◌++◌, Option, Some, None}
 pub use Rattle.asn_meaning.specs.Definitions.{Definitions, last_named}
 use Rattle.asn_tree.specs.declared.definitions.ToplevelDefinition.{ToplevelDefinition}
 use Rattle.asn_tree.specs.declared.definitions.ToplevelDefinition.TheVariants.{TypeDef, Value, Information}
-use Rattle.asn_headers.specs.declared.headers.ModuleReference.{ModuleReference}
+use Rattle.asn_tree_headers.specs.declared.headers.ModuleReference.{ModuleReference}
 use Rattle.asn_tree.specs.declared.types.ASN1Type.{ASN1Type}
 
 -- a module: its header and its definitions

@@ -1,20 +1,22 @@
 -- What is wrong with a definition.
-use Rattle.std.specs.Prelude.{◌≡◌, ◌↔◌, ◌⊎◌, ◌||◌, ℕ, List, Option, Some, None, is_none, is_some, if◌then◌else◌, Bool, true, false}
+use Rattle.std.specs.Prelude.{◌≡◌, ◌↔◌, ◌⊎◌, ◌||◌, ◌&&◌, ℕ, List, Option, Some, None, is_none, is_some, if◌then◌else◌, Bool, true, false}
 use Rattle.std.specs.List.{list_any}
 use Rattle.asn_tree.specs.declared.definitions.ToplevelDefinition.{ToplevelDefinition}
 use Rattle.asn_tree.specs.declared.definitions.ToplevelDefinition.TheVariants.{TypeDef, Value, Information}
 use Rattle.asn_names.specs.declared.faults.Fault.{Fault}
 use Rattle.asn_names.specs.declared.faults.Fault.TheVariants.{Argument, MissingDependency, NotYetInplemented}
+use Rattle.asn_names.specs.declared.faults.Judgement.{Judgement}
+use Rattle.asn_names.specs.declared.faults.Judgement.TheVariants.{NotJudged, Faultless, Faulty}
 use Rattle.asn_meaning.specs.Definitions.{see, type_named}
 use Rattle.asn_needs.specs.Arguments.{argument_wrong}
 use Rattle.asn_needs.specs.Faults.{IsSomewhere}
-use Rattle.asn_needs.specs.Missing.{name_missing}
+use Rattle.asn_needs.specs.Missing.{name_missing, unsupported}
 use Rattle.asn_needs.specs.Sites.{Eventually, Seen, seen, Site, ToDefinition}
-use Rattle.asn_circles.specs.Circles.{FollowsNoCircle, LeadsToNoCircle}
-use Rattle.asn_index.specs.Definitions.{Definitions}
+use Rattle.asn_names_circles.specs.Circles.{FollowsNoCircle, LeadsToNoCircle}
+use Rattle.asn_names_index.specs.Definitions.{Definitions, last_named}
 use Rattle.asn_names.specs.Literals.{is_own_literal}
 use Rattle.asn_names.specs.Occurrences.{names_of, Reaches}
-use Rattle.asn_unchanged.specs.Unchanged.{is_unchanged}
+use Rattle.asn_meaning_unchanged.specs.Unchanged.{is_left, is_unchanged, linking}
 
 -- ---- type references
 
@@ -42,10 +44,10 @@ IsTold defs name f told = Eventually (λ n. IsSomewhere (seen defs n) (ToDefinit
 abbrev pub IsJudged : Definitions → List ℕ → ToplevelDefinition → Type 0
 IsJudged defs name d = ((is_unchanged d ≡ true) × FollowsNoCircle defs name) ⊎ LeadsToNoCircle defs name
 
--- a template of a type, and a value that is a literal of its type
+-- a template of a type, and a value that is a literal of its type, where linking leaves that type as it is
 abbrev pub stays_as_read : ToplevelDefinition → Bool
 stays_as_read (TypeDef d) = is_some d.parameterization
-stays_as_read (Value d) = is_own_literal d
+stays_as_read (Value d) = is_own_literal d && is_left (linking d.associated_type)
 stays_as_read (Information d) = false
 
 -- Nothing is left to be linked in a definition: linking leaves it as it is, it stays as it is read, or linking made its type, as the
@@ -53,19 +55,38 @@ stays_as_read (Information d) = false
 abbrev pub is_settled : ToplevelDefinition → Bool → Bool
 is_settled d linked = is_unchanged d || (stays_as_read d || linked)
 
--- a wrong argument before a missing name; where neither stands, a definition that is not settled is not linked yet
-abbrev pub first_fault : Bool → Bool → Bool → Option Fault
-first_fault wrong missing settled =
-    if wrong then Some Argument else
-    if missing then Some MissingDependency else
-    if settled then None else Some NotYetInplemented
+-- a wrong argument before a missing name, and that before a form that is not linked
+abbrev pub first_at_places : Bool → Bool → Bool → Judgement
+first_at_places wrong missing unlinked =
+    if wrong then Faulty Argument else
+    if missing then Faulty MissingDependency else
+    if unlinked then Faulty NotYetInplemented else Faultless
 
--- The fault of a definition that stands for the name, where linking made its type or did not: of one that is judged, the first that
--- stands at its places; for a time, one that is not judged is not linked.
-pub data HasFault (defs : Definitions) (name : List ℕ) (d : ToplevelDefinition) (linked : Bool) (fault : Option Fault) : Type 0 where
-  is_judged : (wrong missing : Bool) → IsJudged defs name d → IsTold defs name argument_wrong wrong → IsTold defs name name_missing missing →
-      fault ≡ first_fault wrong missing (is_settled d linked) → HasFault defs name d linked fault
-  is_left : (IsJudged defs name d → ⊥) → fault ≡ Some NotYetInplemented → HasFault defs name d linked fault
+-- What is told of a definition that stands for the name: of one that is judged, the first fault that stands at its places.
+pub data IsJudgement (defs : Definitions) (name : List ℕ) (d : ToplevelDefinition) (judgement : Judgement) : Type 0 where
+  for_places : (wrong missing unlinked : Bool) → IsJudged defs name d → IsTold defs name argument_wrong wrong → IsTold defs name name_missing missing →
+      IsTold defs name unsupported unlinked → judgement ≡ first_at_places wrong missing unlinked → IsJudgement defs name d judgement
+  for_none : (IsJudged defs name d → ⊥) → judgement ≡ NotJudged → IsJudgement defs name d judgement
+
+-- the fault by that: for a time, a definition that is not judged is not linked; where no fault stands at a place, one that is not settled
+-- is not linked yet
+abbrev pub fault_by : Judgement → Bool → Option Fault
+fault_by NotJudged settled = Some NotYetInplemented
+fault_by Faultless settled = if settled then None else Some NotYetInplemented
+fault_by (Faulty fault) settled = Some fault
+
+-- The fault of a definition that stands for the name, where linking made its type or did not.
+pub record HasFault (defs : Definitions) (name : List ℕ) (d : ToplevelDefinition) (linked : Bool) (fault : Option Fault) : Type 0 where
+  pub judgement : Judgement
+  pub told : IsJudgement defs name d judgement
+  pub so : fault ≡ fault_by judgement (is_settled d linked)
+
+-- A fault stands at a place of the definition that stands for the name, and linking judges it.
+pub record IsFaulty (defs : Definitions) (name : List ℕ) : Type 0 where
+  pub definition : ToplevelDefinition
+  pub stands : last_named defs name ≡ Some definition
+  pub fault : Fault
+  pub told : IsJudgement defs name definition (Faulty fault)
 
 -- ---- what linking leaves as it is
 

@@ -3,7 +3,7 @@ use Rattle.std.specs.Prelude.{◌≡◌, ℕ, ◌+◌, List, [], ◌∷◌, ◌+
 use Rattle.asn_tree.specs.Calls.{numbered}
 use Rattle.asn_tree.specs.Tagging.{retagged_definition}
 use Rattle.asn_tree.specs.declared.definitions.ToplevelDefinition.{ToplevelDefinition}
-use Rattle.asn_headers.specs.declared.headers.TaggingEnvironment.{TaggingEnvironment}
+use Rattle.asn_tree_headers.specs.declared.headers.TaggingEnvironment.{TaggingEnvironment}
 use Rattle.asn_names.specs.Definitions.{Definitions, Module}
 
 -- The definition of this number in the module of this number and environment, as linking gives it.

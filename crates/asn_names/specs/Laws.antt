@@ -10,7 +10,7 @@ use Rattle.asn_needs.specs.Faults.{Fault, FaultOf}
 use Rattle.asn_needs.specs.Occurrences.{Occurrence, OccursIn}
 use Rattle.asn_needs.specs.Sites.{seen, ToDefinition}
 use Rattle.asn_names.specs.Decided.{HasHeights, IsDecidedIn, steps_of}
-use Rattle.asn_index.specs.Definitions.{IsStanding}
+use Rattle.asn_names_index.specs.Definitions.{IsStanding}
 use Rattle.asn_names.specs.Definitions.{Definitions, Module, definitions_of, last_named, type_of}
 use Rattle.asn_names.specs.Faults.{HasFault, HasTypes}
 use Rattle.asn_names.specs.declared.faults.Fault.{Fault as Warned}
@@ -18,7 +18,7 @@ use Rattle.asn_names.specs.Given.{IsGiven, given_definitions}
 use Rattle.asn_names.specs.Standing.{AreGiven}
 use Rattle.asn_names.specs.Needed.{IsAcyclic, IsOrdered, stands_as, type_occurrence}
 use Rattle.asn_names.specs.Occurrences.{names_of}
-use Rattle.asn_unchanged.specs.Unchanged.{is_unchanged}
+use Rattle.asn_meaning_unchanged.specs.Unchanged.{is_unchanged}
 
 -- ---- trees are decided
 

@@ -10,7 +10,7 @@ use Rattle.asn_needs.specs.Sites.{Eventually, seen, ToDefinition}
 use Rattle.asn_names.specs.declared.faults.Fault.{Fault as Warned}
 use Rattle.asn_names.specs.declared.faults.Fault.TheVariants as warned
 use Rattle.asn_names.specs.Definitions.{Definitions, last_named}
-use Rattle.asn_unchanged.specs.Unchanged.{is_unchanged}
+use Rattle.asn_meaning_unchanged.specs.Unchanged.{is_unchanged}
 
 -- the name of a type, where no list stands behind it and no dummy is known
 abbrev pub type_occurrence : List ℕ → Occurrence

@@ -4,7 +4,7 @@ use Rattle.std.specs.List.{Contains}
 use Rattle.asn_tree.specs.declared.definitions.ToplevelDefinition.{ToplevelDefinition}
 use Rattle.asn_meaning.specs.Definitions.{see}
 use Rattle.asn_names.specs.Definitions.{Definitions}
-pub use Rattle.asn_unchanged.specs.References.{names_of}
+pub use Rattle.asn_meaning_unchanged.specs.References.{names_of}
 
 -- The type references that occur in a definition, then those that occur in their definitions, and so on.
 pub data Reaches (defs : Definitions) (d : ToplevelDefinition) : List ℕ → Type 0 where

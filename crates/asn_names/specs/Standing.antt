@@ -5,7 +5,7 @@ use Rattle.std.specs.List.{All}
 use Rattle.std.specs.List.Sorted.{IsStrictlySortedBy}
 use Rattle.std.specs.Ordering.{nat_cmp}
 use Rattle.asn_tree.specs.declared.definitions.ToplevelDefinition.{ToplevelDefinition}
-use Rattle.asn_index.specs.Definitions.{name_of}
+use Rattle.asn_names_index.specs.Definitions.{name_of}
 use Rattle.asn_names.specs.Definitions.{Definitions, Module, definitions_of, last_named}
 use Rattle.asn_names.specs.Given.{given_definitions}
 

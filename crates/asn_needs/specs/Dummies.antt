@@ -1,7 +1,7 @@
 -- Dummies: what they stand for, and those of a template that is read by itself.
 use Rattle.std.specs.Prelude.{ℕ, zero, suc, List, [], ◌∷◌, Bool, true, false, not, Option, Some, None, is_some, is_none, ◌||◌, ◌&&◌, if◌then◌else◌}
-use Rattle.asn_headers.specs.declared.headers.ObjectIdentifierArc.{ObjectIdentifierArc}
-use Rattle.asn_kinds.specs.declared.objects.ObjectSetValueOver.TheVariants.{Reference}
+use Rattle.asn_tree_headers.specs.declared.headers.ObjectIdentifierArc.{ObjectIdentifierArc}
+use Rattle.asn_tree_kinds.specs.declared.objects.ObjectSetValueOver.TheVariants.{Reference}
 use Rattle.asn_tree.specs.declared.constraints.Parameter.{Parameter, Parameter-F, out-Parameter}
 use Rattle.asn_tree.specs.declared.definitions.ParameterGovernor.{ParameterGovernor}
 use Rattle.asn_tree.specs.declared.definitions.ParameterGovernor.TheVariants as governor

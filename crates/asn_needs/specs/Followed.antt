@@ -2,7 +2,7 @@
 use Rattle.std.specs.Prelude.{ℕ, zero, suc, List, [], ◌∷◌, ◌++◌, Option, Some, None, is_some, ◌||◌, codes, if◌then◌else◌}
 use Rattle.std.specs.Str.{bytes_eq}
 use Rattle.asn_tree.specs.declared.values.ASN1Value.{ASN1Value}
-use Rattle.asn_notation.specs.Paths.{field_name}
+use Rattle.asn_tree_notation.specs.Paths.{field_name}
 use Rattle.asn_meaning.specs.Accepts.{place}
 use Rattle.asn_meaning.specs.Answers.{once, Denotation, Denoted, Nothing, Unsure}
 use Rattle.asn_meaning.specs.Braces.{elements_written, fields_written}

@@ -8,7 +8,7 @@ use Rattle.asn_tree.specs.declared.objects.InformationObject.{InformationObject}
 use Rattle.asn_tree.specs.declared.objects.InformationObjectClass.{InformationObjectClass}
 use Rattle.asn_tree.specs.declared.objects.InformationObjectField.{InformationObjectField, InformationObjectField-F, out-InformationObjectField}
 use Rattle.asn_tree.specs.declared.objects.InformationObjectFields.{out-InformationObjectFields}
-use Rattle.asn_notation.specs.Syntax.{given_name}
+use Rattle.asn_tree_notation.specs.Syntax.{given_name}
 use Rattle.asn_meaning.specs.Accepts.{place}
 use Rattle.asn_meaning.specs.Answers.{once}
 use Rattle.asn_meaning.specs.Definitions.{Definitions, class_named, object_named}

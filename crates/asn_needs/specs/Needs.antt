@@ -5,7 +5,7 @@ use Rattle.asn_tree.specs.declared.definitions.ToplevelDefinition.{ToplevelDefin
 use Rattle.asn_tree.specs.declared.definitions.ToplevelDefinition.TheVariants.{TypeDef, Value, Information}
 use Rattle.asn_tree.specs.declared.objects.ASN1Information.{ASN1Information}
 use Rattle.asn_tree.specs.declared.objects.ASN1Information.TheVariants.{ObjectClass, ObjectSet, Object}
-use Rattle.asn_notation.specs.Paths.{field_name}
+use Rattle.asn_tree_notation.specs.Paths.{field_name}
 use Rattle.asn_meaning.specs.Answers.{once}
 use Rattle.asn_meaning.specs.Definitions.{Definitions, class_named}
 use Rattle.asn_meaning.specs.Objects.{field_of}

@@ -1,7 +1,7 @@
 -- What stands in an object, an object set and a class's field.
 use Rattle.std.specs.Prelude.{ℕ, List, [], ◌∷◌, ◌++◌, map, Bool, false, Option, Some, None, is_none, is_some, if◌then◌else◌}
-use Rattle.asn_kinds.specs.declared.objects.ObjectSetValueOver.{ObjectSetValueOver}
-use Rattle.asn_kinds.specs.declared.objects.ObjectSetValueOver.TheVariants.{Reference, Inline}
+use Rattle.asn_tree_kinds.specs.declared.objects.ObjectSetValueOver.{ObjectSetValueOver}
+use Rattle.asn_tree_kinds.specs.declared.objects.ObjectSetValueOver.TheVariants.{Reference, Inline}
 use Rattle.asn_tree.specs.declared.constraints.Parameter.{Parameter-F}
 use Rattle.asn_tree.specs.declared.objects.InformationObjectClass.{InformationObjectClass}
 use Rattle.asn_tree.specs.declared.objects.InformationObjectClassField.{InformationObjectClassField}

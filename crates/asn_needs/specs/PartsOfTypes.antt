@@ -11,7 +11,7 @@ use Rattle.asn_tree.specs.declared.definitions.ToplevelTypeDefinition.{ToplevelT
 use Rattle.asn_tree.specs.declared.types.ASN1Type.{ASN1Type}
 use Rattle.asn_tree.specs.declared.types.ChoiceOption.{out-ChoiceOption}
 use Rattle.asn_tree.specs.declared.types.SequenceOrSetMember.{out-SequenceOrSetMember}
-use Rattle.asn_notation.specs.Types.{constraints_of}
+use Rattle.asn_tree_notation.specs.Types.{constraints_of}
 use Rattle.asn_meaning.specs.Accepts.{place}
 use Rattle.asn_meaning.specs.Answers.{once}
 use Rattle.asn_meaning.specs.Definitions.{Definitions, type_named}

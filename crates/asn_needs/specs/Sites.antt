@@ -1,6 +1,6 @@
 -- The places of a definition: what stands at each, the scope that it is read in, and of a value the type that governs it.
 use Rattle.std.specs.Prelude.{ℕ, ◌+◌, List, [], ◌∷◌, ◌++◌, Bool, Option}
-use Rattle.asn_kinds.specs.declared.objects.ObjectSetOver.{ObjectSetOver}
+use Rattle.asn_tree_kinds.specs.declared.objects.ObjectSetOver.{ObjectSetOver}
 use Rattle.asn_tree.specs.declared.constraints.Constraint.{Constraint}
 use Rattle.asn_tree.specs.declared.constraints.ElementOrSetOperation.{ElementOrSetOperation}
 use Rattle.asn_tree.specs.declared.constraints.Parameter.{Parameter}

@@ -5,8 +5,8 @@ use Rattle.std.proofs.lemmas.List.{get_or-map, map-append, length-map, take_all,
 use Rattle.std.proofs.lemmas.List.Elements.{All-append, All-contains, All-contains_itself, All-more, All-nil, All-weaker, Contains-append_left, Contains-append_right}
 use Rattle.asn_needs.specs.Sites.{Seen, Site}
 use Rattle.asn_needs.specs.Stands.{StandsIn, at_first, parts, within}
-use Rattle.asn_sites.specs.Sites.{shown_site}
-use Rattle.asn_sites.specs.declared.sites.Site.{Site as LentSite}
+use Rattle.asn_places_types.specs.Sites.{shown_site}
+use Rattle.asn_places_types.specs.declared.sites.Site.{Site as LentSite}
 
 -- ---- any list, and what stands below each item
 

@@ -1,36 +1,36 @@
 //! What stands in what stands at a place, one level down.
 
-ghost use Rattle.asn_heads.specs.Kinds.{shown_type};
-ghost use Rattle.asn_heads.specs.Scopes.{shown};
-ghost use Rattle.asn_heads.specs.Values.{shown_value};
+ghost use Rattle.asn_meaning_heads.specs.Kinds.{shown_type};
+ghost use Rattle.asn_meaning_heads.specs.Scopes.{shown};
+ghost use Rattle.asn_meaning_heads.specs.Values.{shown_value};
 ghost use Rattle.asn_needs.specs.PartsOfConstraints.{constraint_parts, element_parts, listed_parts, set_parts};
 ghost use Rattle.asn_needs.specs.PartsOfTypes.{argument_parts, type_sites};
 ghost use Rattle.asn_needs.specs.PartsOfValues.{value_sites};
 ghost use Rattle.asn_needs.specs.Sites.{seen};
 ghost use Rattle.asn_needs.specs.Stands.{parts, parts_at};
 ghost use Rattle.asn_meaning.specs.Placed.{listed};
-ghost use Rattle.asn_sites.specs.Forms.{shown_asked, shown_at, shown_form, shown_governor};
-ghost use Rattle.asn_sites.specs.Sites.{shown_around, shown_site, shown_sites};
+ghost use Rattle.asn_places_types.specs.Forms.{shown_asked, shown_at, shown_form, shown_governor};
+ghost use Rattle.asn_places_types.specs.Sites.{shown_around, shown_site, shown_sites};
 ghost use Rattle.asn_tree.specs.declared.constraints.Constraint.{out-Constraint};
 ghost use Rattle.asn_tree.specs.declared.constraints.ElementOrSetOperation.{out-ElementOrSetOperation};
 ghost use Rattle.asn_tree.specs.declared.constraints.SubtypeElement.{out-SubtypeElement};
 ghost use Rattle.std.specs.Option.{option_copied};
 ghost use Rattle.std.specs.Prelude.{◌≡◌, ◌+◌, ℕ, IfOk};
 
-use asn_argument_sites::with_argument_parts;
-use asn_constraint_sites::{with_constraint, with_element, with_listed, with_set};
-use asn_heads::{Place, Scope, TypeForm, ValueForm};
-use asn_index::Names;
+use asn_meaning_heads::{Place, Scope, TypeForm, ValueForm};
 use asn_memory::{Box, List, Mem};
-use asn_object_sites::{
-    with_class_field, with_given, with_loose_field, with_loose_parts, with_object, with_set_items,
+use asn_names_index::Names;
+use asn_places_constraints::{with_constraint, with_element, with_listed, with_set};
+use asn_places_objects::{
+    with_argument_parts, with_class_field, with_given, with_loose_field, with_loose_parts,
+    with_object, with_set_items,
 };
-use asn_sites::{
+use asn_places_types::{
     Around, Asked, Form, OnConstraint, OnElement, OnSet, Site, TypePlace, constraints_behind, lent,
     unboxed, with_governor, with_type,
 };
+use asn_places_values::with_value;
 use asn_tree::{ConstrainedComponent, Constraint, Parameter, ParameterizationArgument};
-use asn_value_sites::with_value;
 use std::alloc::Global;
 use std::rc::Rc;
 

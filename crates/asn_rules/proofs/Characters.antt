@@ -9,15 +9,15 @@ use Rattle.std.proofs.lemmas.Str.{IsCharBoundary-end, IsCharBoundary-before_asci
 use Rattle.std.proofs.lemmas.Bool.{cases_lt}
 use Rattle.std.proofs.lemmas.Bool.Decides.{nat_tests}
 use Rattle.asn_rules.specs.Expression.{Expression, see, marked, seq, choice, many, never, guarded, rule, skip, Sight, bytes, word, one_of, rule_of}
-use Rattle.asn_guards.specs.Lexical.{in_class, first_in, stands, width, word_ends}
-use Rattle.asn_guards.specs.Allows.{allows}
+use Rattle.asn_rules_guards.specs.Lexical.{in_class, first_in, stands, width, word_ends}
+use Rattle.asn_rules_guards.specs.Allows.{allows}
 use Rattle.asn_rules.specs.Runs.{Ending, ends, fails, seen, judged, Runs, sees, sees_mark, seq_ends, seq_fails, choice_first, choice_second, many_turn, many_idle, many_fails, never_ends, never_fails, guard_judges, guard_fails, calls, skips}
-use Rattle.asn_guards.specs.declared.asked.ByteClass.{ByteClass}
-use Rattle.asn_guards.specs.declared.asked.ByteClass.TheVariants.{Blank, Digit, Letter, Lower, Upper, Alnum, Cap, HexLetter, TimeMark, LabelMark, LineFeed, Any}
-use Rattle.asn_guards.specs.declared.asked.Guard.{Guard}
+use Rattle.asn_rules_guards.specs.declared.asked.ByteClass.{ByteClass}
+use Rattle.asn_rules_guards.specs.declared.asked.ByteClass.TheVariants.{Blank, Digit, Letter, Lower, Upper, Alnum, Cap, HexLetter, TimeMark, LabelMark, LineFeed, Any}
+use Rattle.asn_rules_guards.specs.declared.asked.Guard.{Guard}
 use Rattle.asn_rules.proofs.Theory.{runs_lies}
 use Rattle.asn_rules.proofs.Total.{takes_byte, checked, moves}
-use Rattle.asn_guards.proofs.Booleans.{and_both, or_either}
+use Rattle.asn_rules_guards.proofs.Booleans.{and_both, or_either}
 
 abbrev is_ascii : ℕ → Bool
 is_ascii b = nat_lt b 128

@@ -14,9 +14,9 @@ use Rattle.asn_rules.specs.declared.marks.Mark.{Mark}
 use Rattle.asn_rules.specs.Marks.{mark_number}
 use Rattle.asn_rules.proofs.MarkNumbers.{above_rules}
 use Rattle.asn_rules.proofs.Trees.{within, in_order}
-use Rattle.asn_guards.specs.Allows.{allows}
+use Rattle.asn_rules_guards.specs.Allows.{allows}
 use Rattle.asn_rules.specs.Runs.{ends, fails}
-use Rattle.asn_guards.specs.declared.asked.Guard.{Guard}
+use Rattle.asn_rules_guards.specs.declared.asked.Guard.{Guard}
 use Rattle.asn_rules.specs.declared.node.Node.{Node}
 use Rattle.asn_rules.specs.declared.node.Node.TheOpen.{Node-F}
 use Rattle.asn_rules.specs.declared.node.Node.TheViews.{out-Node, out-roll-Node}

@@ -11,7 +11,7 @@ use Rattle.asn_rules.specs.declared.due.ModulePart.{ModulePart}
 use Rattle.asn_rules.specs.declared.names.TheConstants.{ASN_MODULE, MODULE_REFERENCE, SP}
 use Rattle.asn_rules.proofs.Theory.{runs_lies}
 use Rattle.asn_rules.proofs.Total.{moves, takes_byte}
-use Rattle.asn_guards.proofs.Booleans.{and_both, or_either}
+use Rattle.asn_rules_guards.proofs.Booleans.{and_both, or_either}
 use Rattle.asn_rules.proofs.Walks.{forward}
 use Rattle.asn_rules.proofs.Shape.{IsOfModules, is_nothing, ends_by, row_ends, is_blanks, begins_by, row_begins, expression_of, in_sequence, is_fit, are_fit, begins_with_part}
 

@@ -13,7 +13,7 @@ use Rattle.asn_rules.specs.declared.node.Node.TheOpen.{Node-F}
 use Rattle.asn_rules.specs.declared.node.Node.TheViews.{out-Node, out-roll-Node}
 use Rattle.asn_rules.proofs.Characters.{Course, halts, rests, open_ended, course, is_plain, clean, are_right, Between, sight_between, not_high, Follows, follows, between, row_clean}
 use Rattle.asn_rules.proofs.Total.{checked}
-use Rattle.asn_guards.proofs.Booleans.{and_both, or_either}
+use Rattle.asn_rules_guards.proofs.Booleans.{and_both, or_either}
 use Rattle.asn_rules.proofs.Trees.{ended_tree, within}
 
 -- it leaves no node

@@ -7,11 +7,11 @@ use Rattle.std.proofs.lemmas.Bool.Decides.{Decides-eqb, Decides-ltb, nat_tests}
 use Rattle.std.proofs.lemmas.Bool.{cases_lt}
 use Rattle.std.specs.Ordering.{ord_max, nat_cmp}
 use Rattle.asn_rules.specs.Expression.{Expression, see, marked, seq, choice, many, never, guarded, rule, skip, Sight, bytes, word, one_of, rule_of}
-use Rattle.asn_guards.specs.Lexical.{stands, width, word_ends}
-use Rattle.asn_guards.specs.Allows.{allows}
+use Rattle.asn_rules_guards.specs.Lexical.{stands, width, word_ends}
+use Rattle.asn_rules_guards.specs.Allows.{allows}
 use Rattle.asn_rules.specs.Runs.{Ending, ends, fails, seen, judged, Runs, sees, sees_mark, seq_ends, seq_fails, choice_first, choice_second, many_turn, many_idle, many_fails, never_ends, never_fails, guard_judges, guard_fails, calls, skips, Answer, Answers, Exceeds}
 use Rattle.asn_rules.specs.inner.Answer.{at_height, raised, raise, one_more, higher, then_from, or_else, turned, judge, turn, turns, expr_answer, call_answer, answer, IsWithin, IsWithinOutcome, height_of}
-use Rattle.asn_guards.specs.declared.asked.Guard.{Guard}
+use Rattle.asn_rules_guards.specs.declared.asked.Guard.{Guard}
 use Rattle.asn_rules.specs.declared.marks.Mark.{Mark}
 use Rattle.asn_rules.specs.declared.run.Outcome.{Outcome}
 use Rattle.asn_rules.specs.declared.run.Outcome.TheVariants.{End, Fail}

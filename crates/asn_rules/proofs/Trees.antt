@@ -3,13 +3,13 @@ use Rattle.std.proofs.Common.{◌≡◌, ℕ, zero, suc, ◌+◌, ◌-◌, ◌<�
 use Rattle.std.specs.Prelude.{nat_lt, if◌then◌else◌, slice_range}
 use Rattle.std.proofs.lemmas.Bool.Decides.{Decides-ltb, nat_tests}
 use Rattle.asn_rules.specs.Expression.{Expression, see, marked, seq, choice, many, never, guarded, rule, skip, Sight, rule_of}
-use Rattle.asn_guards.specs.Allows.{allows}
+use Rattle.asn_rules_guards.specs.Allows.{allows}
 use Rattle.asn_rules.specs.Runs.{Ending, ends, fails, seen, judged, Runs, seq_ends, seq_fails, choice_first, choice_second, many_turn, many_idle, many_fails, never_ends, never_fails, guard_judges, guard_fails, calls, skips, Answer}
 use Rattle.asn_rules.specs.Runs as runs
 use Rattle.asn_rules.specs.inner.Answer.{at_height, raise, higher, then_from, or_else, turned, judge, turn, turns, expr_answer, call_answer, answer}
 use Rattle.asn_rules.specs.Derives.{Derives, OneTree, node, sees, leaves_mark, joins, takes, turns_to, repeats, idles, stops, misses, passes, stands, leaves_none, Derivation, Stand, ends_before, one_more}
 use Rattle.asn_rules.specs.inner.Grown.{Growth, End, Fail, TooDeep, leafless, with_leaf, without_nodes, of_outcome, after, then_grow, else_grow, turn_growth, kept, judge_growth, grow_turn, grow_turns, expr_growth, topped, call_growth, grown, plain}
-use Rattle.asn_guards.specs.declared.asked.Guard.{Guard}
+use Rattle.asn_rules_guards.specs.declared.asked.Guard.{Guard}
 use Rattle.asn_rules.specs.declared.marks.Mark.{Mark}
 use Rattle.asn_rules.specs.Marks.{mark_number}
 use Rattle.asn_rules.specs.declared.node.Node.{Node}

@@ -3,7 +3,7 @@ use Rattle.std.specs.Prelude.{List, ◌∷◌, codes}
 use Rattle.asn_rules.specs.Expression.{Expression, many, never, guarded, rule}
 use Rattle.asn_rules.specs.declared.marks.Mark.TheVariants as mark
 use Rattle.asn_rules.specs.Forms.{any, keyword, keyword_as, literal, maybe, parens, some, sp, symbol, symbol_as, whole_as, words, ◌¦◌, ◌·◌}
-use Rattle.asn_guards.specs.declared.asked.Guard.TheVariants.{IsSetting}
+use Rattle.asn_rules_guards.specs.declared.asked.Guard.TheVariants.{IsSetting}
 
 -- rules 102 to 139, and the further rules behind them
 unfoldable pub constraint_rules_before : List Expression → List Expression

@@ -4,7 +4,7 @@ use Rattle.asn_rules.specs.declared.marks.Mark.{Mark}
 use Rattle.asn_rules.specs.Marks.{mark_number}
 use Rattle.asn_rules.specs.Expression.{Expression, see, marked, seq, choice, many, never, guarded, rule, skip, Sight, rule_of}
 use Rattle.asn_rules.specs.Runs.{Ending, ends, fails, seen, judged, Runs}
-use Rattle.asn_guards.specs.declared.asked.Guard.{Guard}
+use Rattle.asn_rules_guards.specs.declared.asked.Guard.{Guard}
 use Rattle.asn_rules.specs.declared.run.MatchFault.{MatchFault}
 use Rattle.asn_rules.specs.declared.run.MatchFault.TheVariants.{TooDeep, OutOfMemory}
 use Rattle.asn_rules.specs.declared.node.Node.{Node}

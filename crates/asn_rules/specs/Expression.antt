@@ -1,7 +1,7 @@
 -- Expressions of an ordered grammar (B. Ford, Parsing Expression Grammars, 2004), and how those of the code read as these.
 use Rattle.std.specs.Prelude.{ℕ, ◌+◌, List, [], get_or}
-pub use Rattle.asn_guards.specs.Lexical.{Sight, bytes, word, one_of, sight}
-use Rattle.asn_guards.specs.declared.asked.Guard.{Guard}
+pub use Rattle.asn_rules_guards.specs.Lexical.{Sight, bytes, word, one_of, sight}
+use Rattle.asn_rules_guards.specs.declared.asked.Guard.{Guard}
 use Rattle.asn_rules.specs.declared.marks.Mark.{Mark}
 use Rattle.asn_rules.specs.declared.expression.Expression as coded
 use Rattle.asn_rules.specs.declared.expression.Expression.TheVariants.{See, Marked, Call, Skip, Sequence', Choice', Many', Not', Guarded'}

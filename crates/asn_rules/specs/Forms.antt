@@ -2,7 +2,7 @@
 use Rattle.std.specs.Prelude.{ℕ, List, [], codes}
 use Rattle.asn_rules.specs.declared.marks.Mark.{Mark}
 use Rattle.asn_rules.specs.Expression.{Expression, see, marked, seq, choice, many, never, rule, skip, bytes, word, one_of}
-use Rattle.asn_guards.specs.declared.asked.ByteClass.TheVariants.{Blank, Digit, Letter, Lower, Upper, Alnum, Cap, HexLetter, TimeMark, LabelMark, LineFeed, Any}
+use Rattle.asn_rules_guards.specs.declared.asked.ByteClass.TheVariants.{Blank, Digit, Letter, Lower, Upper, Alnum, Cap, HexLetter, TimeMark, LabelMark, LineFeed, Any}
 
 infixr 7 ◌·◌
 abbrev pub ◌·◌ : Expression → Expression → Expression

@@ -3,7 +3,7 @@ use Rattle.std.specs.Prelude.{List, ◌∷◌, codes}
 use Rattle.asn_rules.specs.Expression.{Expression, many, never, guarded, rule}
 use Rattle.asn_rules.specs.declared.marks.Mark.TheVariants as mark
 use Rattle.asn_rules.specs.Forms.{alnum, any, keyword, keyword_as, label_mark, letter, literal, maybe, some, sp, symbol, whole_as, words, ◌¦◌, ◌·◌}
-use Rattle.asn_guards.specs.declared.asked.Guard.TheVariants.{HasLabels}
+use Rattle.asn_rules_guards.specs.declared.asked.Guard.TheVariants.{HasLabels}
 
 -- rules 162 to 180, and the further rules behind them
 unfoldable pub header_rules_before : List Expression → List Expression

@@ -2,7 +2,7 @@
 use Rattle.std.specs.Prelude.{List, ◌∷◌, codes}
 use Rattle.asn_rules.specs.Expression.{Expression, many, never, guarded, rule}
 use Rattle.asn_rules.specs.Forms.{◌·◌, ◌¦◌, sp, literal, symbol, maybe, some, no_rule, letter, lower, digit, alnum, cap, blank, line_feed, any}
-use Rattle.asn_guards.specs.declared.asked.Guard.TheVariants.{NoKeyword, NamesClass, FitsU64, FitsU128, FitsI128, FitsI32}
+use Rattle.asn_rules_guards.specs.declared.asked.Guard.TheVariants.{NoKeyword, NamesClass, FitsU64, FitsU128, FitsI128, FitsI32}
 
 -- rules 1 to 22, and the further rules behind them
 unfoldable pub lexical_rules_before : List Expression → List Expression

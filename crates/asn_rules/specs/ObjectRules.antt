@@ -3,7 +3,7 @@ use Rattle.std.specs.Prelude.{List, ◌∷◌, codes}
 use Rattle.asn_rules.specs.Expression.{Expression, many, guarded, rule}
 use Rattle.asn_rules.specs.declared.marks.Mark.TheVariants as mark
 use Rattle.asn_rules.specs.Forms.{ahead, keyword, keyword_as, literal, lower, maybe, some, sp, symbol, symbol_as, upper, ◌¦◌, ◌·◌}
-use Rattle.asn_guards.specs.declared.asked.Guard.TheVariants.{NoKeyword}
+use Rattle.asn_rules_guards.specs.declared.asked.Guard.TheVariants.{NoKeyword}
 
 -- rules 140 to 161, and the further rules behind them
 unfoldable pub object_rules_before : List Expression → List Expression

@@ -2,9 +2,9 @@
 use Rattle.std.specs.Prelude.{◌≡◌, ℕ, ◌+◌, ◌<◌, ◌≤◌, max, List, Result, Ok, Err, if◌then◌else◌, slice_range, drop}
 use Rattle.asn_rules.specs.declared.marks.Mark.{Mark}
 use Rattle.asn_rules.specs.Expression.{Expression, see, marked, seq, choice, many, never, guarded, rule, skip, Sight, rule_of}
-use Rattle.asn_guards.specs.Lexical.{stands, width}
-use Rattle.asn_guards.specs.Allows.{allows}
-use Rattle.asn_guards.specs.declared.asked.Guard.{Guard}
+use Rattle.asn_rules_guards.specs.Lexical.{stands, width}
+use Rattle.asn_rules_guards.specs.Allows.{allows}
+use Rattle.asn_rules_guards.specs.declared.asked.Guard.{Guard}
 use Rattle.asn_rules.specs.declared.run.Outcome.{Outcome}
 use Rattle.asn_rules.specs.declared.run.Outcome.TheVariants.{End, Fail}
 use Rattle.asn_rules.specs.declared.run.MatchFault.{MatchFault}

@@ -1,7 +1,7 @@
 -- The rules of types.
 use Rattle.std.specs.Prelude.{List, ◌∷◌, codes}
 use Rattle.asn_rules.specs.Expression.{Expression, guarded, many, rule}
-use Rattle.asn_guards.specs.declared.asked.Guard.TheVariants.{NumbersFit}
+use Rattle.asn_rules_guards.specs.declared.asked.Guard.TheVariants.{NumbersFit}
 use Rattle.asn_rules.specs.declared.marks.Mark.TheVariants as mark
 use Rattle.asn_rules.specs.Forms.{blank, keyword, keyword_as, maybe, some, symbol, whole_as, words, ◌¦◌, ◌·◌}
 

@@ -3,7 +3,7 @@ use Rattle.std.specs.Prelude.{List, ◌∷◌, codes}
 use Rattle.asn_rules.specs.Expression.{Expression, many, never, guarded, rule}
 use Rattle.asn_rules.specs.declared.marks.Mark.TheVariants as mark
 use Rattle.asn_rules.specs.Forms.{any, blank, digit, hex_letter, keyword, keyword_as, literal, maybe, some, sp, symbol, time_mark, ◌¦◌, ◌·◌}
-use Rattle.asn_guards.specs.declared.asked.Guard.TheVariants.{FitsReal, FitsU8, IsBase, IsCharacter, IsTime}
+use Rattle.asn_rules_guards.specs.declared.asked.Guard.TheVariants.{FitsReal, FitsU8, IsBase, IsCharacter, IsTime}
 
 -- rules 23 to 53, and the further rules behind them
 unfoldable pub value_rules_before : List Expression → List Expression

@@ -24,7 +24,7 @@ use crate::names::{
     SINGLE_VALUE, SIZE_CONSTRAINT, SUBSET_MEMBER, SUBTYPE_ELEMENT, TABLE_CONSTRAINT,
     USER_DEFINED_CONSTRAINT, VALUE_IDENTIFIER, VALUE_RANGE,
 };
-use asn_guards::{Guard, Sight};
+use asn_rules_guards::{Guard, Sight};
 
 // 102 constraint = constraint_item+
 static RULE_102: Expression = some!(Call(CONSTRAINT_ITEM));

@@ -17,7 +17,7 @@ use crate::grammar::Grammar;
 use crate::names::{
     ASSIGNMENT, DEFINITION, DEFINITIVE, END, ENVIRONMENTS, EXPORTS, IDENTIFIER, IMPORTS,
 };
-use asn_guards::Sight;
+use asn_rules_guards::Sight;
 
 /// A part that each module has (X.680 13.1).
 #[derive(Clone, Copy, Debug, PartialEq, Eq)]

@@ -3,7 +3,7 @@
 //! The tables in `first.rt` and `whole.rt` are made of these, and the interpreters in `run.rt` and `derive.rt` read them.
 
 use crate::marks::Mark;
-use asn_guards::{Guard, Sight};
+use asn_rules_guards::{Guard, Sight};
 
 /// An expression of an ordered grammar.
 #[derive(Clone, Copy)]

@@ -4,7 +4,7 @@
 
 use crate::expression::Expression;
 use crate::names::SP;
-use asn_guards::{ByteClass, Sight};
+use asn_rules_guards::{ByteClass, Sight};
 
 macro_rules! seq {
     ($a:expr) => { $a };

@@ -20,7 +20,7 @@ use crate::names::{
     IMPORTED_SYMBOL, IMPORTS, IRI_LABELS, IRI_VALUE, ITEM_COMMENT, NAME_TAIL,
     OBJECT_IDENTIFIER_VALUE, SYMBOL_LIST, TAG_DEFAULT, VALUE_IDENTIFIER,
 };
-use asn_guards::{Guard, Sight};
+use asn_rules_guards::{Guard, Sight};
 
 // 162 iri_labels = (alnum / one of -_~./)+ {no empty label between slashes}
 static RULE_162: Expression = Guarded(&some!(choice!(ALNUM, LABEL_MARK)), Guard::HasLabels);

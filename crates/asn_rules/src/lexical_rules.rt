@@ -18,7 +18,7 @@ use crate::names::{
     BLOCK_COMMENT, CAPS_TAIL, COMMENT, COMMENT_BODY, DIGITS, LINE_BODY, LINE_COMMENT, NAME_TAIL,
     UPPERCASE_IDENTIFIER,
 };
-use asn_guards::{Guard, Sight};
+use asn_rules_guards::{Guard, Sight};
 
 // A number that is no rule's fails everywhere.
 pub(crate) static NO_RULE: Expression = NONE;

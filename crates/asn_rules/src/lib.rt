@@ -1,6 +1,6 @@
 //! The ordered grammar of ASN.1 as a table of rules, and the interpreter that runs it over a text.
 //!
-//! It stands on `asn_memory` and `asn_guards`, knows which bytes stand where, and nothing of what they mean. The interpreter
+//! It stands on `asn_memory` and `asn_rules_guards`, knows which bytes stand where, and nothing of what they mean. The interpreter
 //! here is the plain one, which tries a rule anew wherever it is called and takes no memory: the lexical readers ask it. The
 //! packrat table above stands on the same rows, and the readers read types and values off its nodes by the names of [`names`].
 #![tactic(auto)]
@@ -24,7 +24,7 @@ mod type_rules;
 mod value_rules;
 mod whole;
 
-pub use asn_guards::{
+pub use asn_rules_guards::{
     ASN1_KEYWORDS, ByteClass, Guard, Sight, fit_is_exact, is_in_class, is_keyword, is_word_end,
     natural_number, next_bare, reserved_words, whole_number,
 };

@@ -21,7 +21,7 @@ use crate::names::{
     OBJECT_SET, OPTIONAL_MARKER, SET_MARK, SET_MORE, SINGLE_VALUE_FIELD_ID, SYNTAX_GROUP,
     SYNTAX_ITEM, SYNTAX_LITERAL, SYNTAX_PART, UPPERCASE_IDENTIFIER,
 };
-use asn_guards::{Guard, Sight};
+use asn_rules_guards::{Guard, Sight};
 
 // 140 single_value_field_id = sp `&` lower name_tail
 static RULE_140: Expression = seq!(BLANKS, bytes!(b"&"), LOWER, Call(NAME_TAIL));

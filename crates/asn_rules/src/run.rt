@@ -11,7 +11,7 @@ ghost use Rattle.asn_rules.specs.Grammar.{rules_of};
 
 use crate::expression::Expression;
 use crate::grammar::{Grammar, rule_expression};
-use asn_guards::{Guard, Sight, is_allowed, stands_in, width_of};
+use asn_rules_guards::{Guard, Sight, is_allowed, stands_in, width_of};
 use thiserror::Error;
 
 /// What a try of a rule came to. Its height counts the calls that lie within each other, itself included.

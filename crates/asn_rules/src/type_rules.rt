@@ -25,7 +25,7 @@ use crate::names::{
     SEQUENCE, SEQUENCE_COMPONENT, SEQUENCE_OF, SEQUENCE_OR_SET_MEMBER, SET, SET_OF, STRUCT_BODY,
     TIME, TITLE_CASE_IDENTIFIER, UTC_TIME, VALUE_IDENTIFIER, VALUE_PATH,
 };
-use asn_guards::{Guard, Sight};
+use asn_rules_guards::{Guard, Sight};
 
 // 54 null = 'NULL'
 static RULE_54: Expression = keyword!(b"NULL");

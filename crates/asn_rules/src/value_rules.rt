@@ -22,7 +22,7 @@ use crate::names::{
     OCTET_NUMBER, PATH_STEP, QUADRUPLE, QUOTED, QUOTED_BODY, REAL_BASE, REAL_VALUE, SEQUENCE_VALUE,
     STRUCT_ITEM, TIME_CHARS, TIME_VALUE, VALUE_IDENTIFIER, VALUE_LIST, VALUE_PATH,
 };
-use asn_guards::{Guard, Sight};
+use asn_rules_guards::{Guard, Sight};
 
 // 23 all_value = 'ALL'
 static RULE_23: Expression = keyword!(b"ALL");

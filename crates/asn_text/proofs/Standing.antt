@@ -7,7 +7,7 @@ use Rattle.std.proofs.Math.Seq.{take-append_seam}
 use Rattle.std.specs.Prelude.{nat_eq}
 use Rattle.std.specs.List.{starts_with}
 use Rattle.std.specs.Str.{IsUtf8, IsCharBoundary}
-use Rattle.asn_guards.specs.Lexical.{is_blank}
+use Rattle.asn_rules_guards.specs.Lexical.{is_blank}
 
 -- behind a text that stands between two characters a character begins
 pub behind_text : (text sought : List ℕ) (place : ℕ) → IsUtf8 text → IsUtf8 sought → IsCharBoundary text place → starts_with nat_eq (drop place text) sought ≡ true → IsCharBoundary text (place + length sought)

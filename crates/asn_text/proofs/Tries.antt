@@ -1,11 +1,11 @@
 -- What a try of a form says of the tries within it.
 use Rattle.std.proofs.Common.{◌≡◌, ℕ, ◌+◌, ◌≤◌, List, Bool, true, false, drop, refl, subst, arith, ◌⊎◌, inl, inr}
 use Rattle.std.specs.Prelude.{if◌then◌else◌, slice_range}
-use Rattle.asn_guards.specs.Lexical.{stands, width}
+use Rattle.asn_rules_guards.specs.Lexical.{stands, width}
 use Rattle.asn_rules.specs.Expression.{Expression, Sight, see, seq, choice, many, guarded, rule, skip, rule_of}
-use Rattle.asn_guards.specs.Allows.{allows}
+use Rattle.asn_rules_guards.specs.Allows.{allows}
 use Rattle.asn_rules.specs.Runs.{Ending, ends, fails, judged, Runs, sees, seq_ends, choice_first, choice_second, many_turn, guard_judges, guard_fails, calls, skips}
-use Rattle.asn_guards.specs.declared.asked.Guard.{Guard}
+use Rattle.asn_rules_guards.specs.declared.asked.Guard.{Guard}
 
 module _ (rules : List Expression) (text : List ℕ) where
   -- the first part of a sequence that ends

@@ -2,8 +2,8 @@
 use Rattle.std.specs.Prelude.{◌≡◌, ℕ, ◌+◌, ◌≤◌, true, false, List, codes, take, drop, slice_range, nat_eq, ℤ, Option, Some, None, if◌then◌else◌}
 use Rattle.std.specs.List.{starts_with}
 use Rattle.asn_rules.specs.Expression.{rule, Sight}
-use Rattle.asn_guards.specs.Guards.{bare, natural, integer}
-use Rattle.asn_guards.specs.Lexical.{stands, width}
+use Rattle.asn_rules_guards.specs.Guards.{bare, natural, integer}
+use Rattle.asn_rules_guards.specs.Lexical.{stands, width}
 use Rattle.asn_rules.specs.Runs.{Ending, ends, fails, Runs, Exceeds}
 use Rattle.asn_rules.specs.Whole.{whole_rules}
 use Rattle.asn_rules.specs.declared.names.TheConstants.{COMMENT_BODY, LINE_BODY, SP}

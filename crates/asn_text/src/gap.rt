@@ -7,7 +7,7 @@ ghost use Rattle.std.specs.Prelude.{◌≡◌, ◌+◌, ◌≤◌, true, false, 
 ghost use Rattle.std.specs.List.{prefix_len, starts_with};
 ghost use Rattle.std.specs.Str.{IsCharBoundary};
 ghost use Rattle.asn_rules.specs.Expression.{bytes, word as whole_word};
-ghost use Rattle.asn_guards.specs.Lexical.{is_blank, stands};
+ghost use Rattle.asn_rules_guards.specs.Lexical.{is_blank, stands};
 ghost use Rattle.asn_text.specs.Input.{part_of};
 ghost use Rattle.asn_text.specs.Part.{shown, part_from};
 ghost use Rattle.asn_text.specs.Reads.{EndsAt, Finds, IsFaultOfFinding, IsGapFault, SkipsTo};

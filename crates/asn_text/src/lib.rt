@@ -1,6 +1,6 @@
 //! Parts of a source text with their positions: where a reader of the text stands.
 //!
-//! It stands on the texts, lists and boxes of `asn_memory`, which it hands on, on the marks of `asn_markers`, and its
+//! It stands on the texts, lists and boxes of `asn_memory`, which it hands on, on the marks of `asn_tree_leaves`, and its
 //! lexical readers on the rules of `asn_rules`. The readers and the errors of the crates above speak of places in a
 //! text through it; it knows nothing of trees.
 #![tactic(auto)]
@@ -20,10 +20,10 @@ mod readers;
 mod report;
 mod until;
 
-pub use asn_markers::{ExtensionMarker, OptionalMarker, RangeSeperator};
 pub use asn_memory::{Box, List, Mem, OutOfMemory, Text};
 pub use asn_probe::{Probe, Steps};
 pub use asn_rules::ASN1_KEYWORDS;
+pub use asn_tree_leaves::{ExtensionMarker, OptionalMarker, RangeSeperator};
 pub use bits::hex_to_bools;
 pub use errors::{
     Context, ErrorBranches, ErrorKind, ErrorLeaf, ErrorLink, ErrorLinks, ErrorTree, MiscError,

@@ -10,8 +10,8 @@ ghost use Rattle.asn_text.specs.Reads.{Reads, IsFaultOf, IsMark, IsComma};
 use crate::fault::ParserResult;
 use crate::input::Input;
 use crate::readers::end_of;
-use asn_markers::{ExtensionMarker, RangeSeperator};
 use asn_rules::names::{EXTENSION_MARKER, OPTIONAL_COMMA, RANGE_SEPERATOR};
+use asn_tree_leaves::{ExtensionMarker, RangeSeperator};
 
 /// The two dots of a range (X.680 12.21). Blanks and comments may stand before them.
 pub fn range_seperator<'a>(input: Input<'a>, depth: usize) -> ParserResult<'a, RangeSeperator>

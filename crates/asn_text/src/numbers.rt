@@ -6,7 +6,7 @@
 
 ghost use Rattle.std.specs.Prelude.{◌≡◌, ◌≤◌, true, Some, codes, IfOk, IfErr, take};
 ghost use Rattle.std.specs.Option.{is_some};
-ghost use Rattle.asn_guards.specs.Guards.{bare, natural, integer};
+ghost use Rattle.asn_rules_guards.specs.Guards.{bare, natural, integer};
 ghost use Rattle.asn_text.specs.Input.{part_of};
 ghost use Rattle.asn_text.specs.Part.{shown};
 ghost use Rattle.asn_text.specs.Reads.{Reads, IsFaultOf, IsNatural, IsWhole};
@@ -84,7 +84,7 @@ fn taken<'a>(
     }
 }
 
-#[tactic(auto, using(asn_guards::proofs::Numbers::natural_below))]
+#[tactic(auto, using(asn_rules_guards::proofs::Numbers::natural_below))]
 fn u64_of(text: &str) -> u64
     requires { is_some (natural 64 (bare text.now)) ≡ true }
     ensures { natural 64 (bare text.now) ≡ Some result }
@@ -115,7 +115,7 @@ fn i128_of(text: &str) -> i128
     }
 }
 
-#[tactic(auto, using(asn_guards::proofs::Numbers::integer_narrowed))]
+#[tactic(auto, using(asn_rules_guards::proofs::Numbers::integer_narrowed))]
 fn i32_of(text: &str) -> i32
     requires { is_some (integer 31 (bare text.now)) ≡ true }
     ensures { integer 31 (bare text.now) ≡ Some result }

@@ -249,6 +249,7 @@ module _ (words : List (String Global)) (source source' sink sink' : StreamState
         headers = h.links.modules;
         linking = h.links.linking;
         definitions = h.links.definitions;
+        withheld = h.links.withheld;
         warned = h.links.warnings;
         faults = h.links.faults;
         means = means reading linked h.links;

@@ -1,11 +1,12 @@
 -- What a run promises its user.
 use Rattle.std.specs.Prelude.{◌≡◌, ◌⊎◌, ℕ, List, Some, map, true}
 use Rattle.asn_check.specs.declared.linked.Linked.{Linked}
+use Rattle.asn_check.specs.Judged.{AreWithheld}
 use Rattle.asn_check.specs.Listing.{listing_of}
 use Rattle.asn_check.specs.KeptMeaning.{AcceptsAlike}
 use Rattle.asn_check.specs.Needed.{WarnsOfFaults}
 use Rattle.asn_check.specs.Warnings.{AreWarnings, said_by}
-use Rattle.asn_linking.specs.Linked.{Linking, is_clean, is_linked, linked_definitions}
+use Rattle.asn_link.specs.Linked.{Linking, is_clean, is_linked, linked_definitions}
 use Rattle.asn_meaning.specs.Definitions.{type_named}
 use Rattle.asn_meaning.specs.Plain.{IsPlain}
 use Rattle.asn_modules.specs.Whole.{IsMatchingError, IsReading}
@@ -48,6 +49,8 @@ pub record Prints (depth : ℕ) (text : List ℕ) (sink sink' : StreamState) (en
   pub linking : Linking (given_definitions reading)
   -- one definition for each name, the last of the name, in byte order of names, with the type that linking made of it, where it made one
   pub definitions : linked.definitions ≡ linked_definitions linking
+  -- a definition in which a fault stands at a place, as far as it is judged, is given as it is read, and no other is for that
+  pub withheld : AreWithheld (definitions_of reading) linking.standing linking.withheld
   -- each definition is warned exactly for its faults, and each name that is defined more than once for that, in byte
   -- order of names
   pub warned : AreWarnings (definitions_of reading) (is_linked linking) (map said_by linked.warnings)

@@ -6,7 +6,7 @@ use Rattle.std.specs.Str.{IsUtf8}
 use Rattle.asn_check.specs.declared.linked.Linked.{Linked}
 use Rattle.asn_check.specs.Linked.{IsLinkedOf}
 use Rattle.asn_check.specs.Listing.{listing_of}
-use Rattle.asn_derivation.specs.Derivation.{report_of}
+use Rattle.asn_read_nodes.specs.Derivation.{report_of}
 use Rattle.asn_modules.specs.Whole.{IsMatchingError, IsReading}
 use Rattle.asn_names.specs.Definitions.{Module}
 use Rattle.asn_rules.specs.Valid.{Fails, IsDeeper, IsValid}
@@ -18,7 +18,7 @@ use Rattle.asn_streams.specs.Source.{Gives}
 use Rattle.asn_streams.specs.Stream.{StreamState}
 use Rattle.asn_streams.specs.Taking.{limit, LosesFront}
 use Rattle.asn_text.specs.declared.report.LexerError.{LexerError}
-use Rattle.asn_faults.specs.declared.errors.LinkerError.{LinkerError}
+use Rattle.asn_tree_leaves.specs.declared.errors.LinkerError.{LinkerError}
 use Rattle.asn_tool.specs.declared.ended.Ended.{Ended}
 use Rattle.asn_tool.specs.declared.status.Status.{Status}
 use Rattle.asn_tool.specs.declared.status.Status.TheVariants.{Clean, Warned, Matching, TooDeep, NotUtf8, TooLong, ReadFault, WriteFault, Usage, OutOfMemory}

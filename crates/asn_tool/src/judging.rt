@@ -1,6 +1,6 @@
 //! From the bytes of a text to what is to be written: the status, the trees and the listing or the line.
 
-ghost use Rattle.asn_derivation.specs.Derivation.{report_of};
+ghost use Rattle.asn_read_nodes.specs.Derivation.{report_of};
 ghost use Rattle.asn_tool.specs.inner.Output.{an_error, IsLine, IsOutputOf, IsOutputOfReading};
 ghost use Rattle.asn_tool.specs.Lines.{depth_line, matching_line};
 ghost use Rattle.asn_tool.specs.Run.{place_line, status_of};

@@ -1,13 +1,13 @@
 -- Types that are made of parts.
 use Rattle.std.specs.Prelude.{ℕ, ℤ, ◌<◌, ◌≤◌, List, [], ◌∷◌, ◌++◌, length, Option, None, Bool, false, true, ◌||◌, is_some, IsSomeAnd}
 use Rattle.std.specs.Option.{option_map}
-use Rattle.asn_markers.specs.declared.ExtensionMarker.{ExtensionMarker}
-use Rattle.asn_markers.specs.declared.OptionalMarker.{OptionalMarker}
+use Rattle.asn_tree_leaves.specs.declared.markers.ExtensionMarker.{ExtensionMarker}
+use Rattle.asn_tree_leaves.specs.declared.markers.OptionalMarker.{OptionalMarker}
 use Rattle.asn_tree.specs.declared.constraints.Constraint.{Constraint}
 use Rattle.asn_tree.specs.declared.constraints.Constraint.TheVariants as constraint
 use Rattle.asn_tree.specs.declared.constraints.ElementOrSetOperation.TheVariants as set
 use Rattle.asn_tree.specs.declared.constraints.SubtypeElement.TheVariants as element
-use Rattle.asn_headers.specs.declared.headers.AsnTag.{AsnTag}
+use Rattle.asn_tree_headers.specs.declared.headers.AsnTag.{AsnTag}
 use Rattle.asn_tree.specs.declared.types.ASN1Type.{ASN1Type}
 use Rattle.asn_tree.specs.declared.types.Choice.{Choice, roll-Choice}
 use Rattle.asn_tree.specs.declared.types.ChoiceOption.{ChoiceOption, roll-ChoiceOption}
@@ -18,7 +18,7 @@ use Rattle.asn_tree.specs.declared.types.SequenceOrSetMember.{SequenceOrSetMembe
 use Rattle.asn_tree.specs.declared.types.SequenceOrSetOf.{SequenceOrSetOf, roll-SequenceOrSetOf}
 use Rattle.asn_tree.specs.declared.values.ASN1Value.{ASN1Value}
 use Rattle.asn_tree.specs.declared.values.ASN1Value.TheVariants as value
-use Rattle.asn_same.specs.Making.{listed, marked}
+use Rattle.asn_tree_equality.specs.Making.{listed, marked}
 use Rattle.asn_tree.specs.MakingComponents.{members_in, names_in, places_in}
 
 -- an INTEGER between two numbers, each within; an absent one is MIN or MAX (X.680 51.4)

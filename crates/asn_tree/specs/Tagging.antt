@@ -7,8 +7,8 @@ use Rattle.asn_tree.specs.declared.definitions.Parameterization.{Parameterizatio
 use Rattle.asn_tree.specs.declared.definitions.ParameterizationArgument.{ParameterizationArgument}
 use Rattle.asn_tree.specs.declared.definitions.ToplevelDefinition.{ToplevelDefinition}
 use Rattle.asn_tree.specs.declared.definitions.ToplevelDefinition.TheVariants.{TypeDef, Value, Information}
-use Rattle.asn_headers.specs.declared.headers.AsnTag.{AsnTag}
-use Rattle.asn_headers.specs.declared.headers.TaggingEnvironment.{TaggingEnvironment}
+use Rattle.asn_tree_headers.specs.declared.headers.AsnTag.{AsnTag}
+use Rattle.asn_tree_headers.specs.declared.headers.TaggingEnvironment.{TaggingEnvironment}
 use Rattle.asn_tree.specs.declared.objects.ASN1Information.{ASN1Information}
 use Rattle.asn_tree.specs.declared.objects.ASN1Information.TheVariants.{ObjectClass, ObjectSet, Object}
 use Rattle.asn_tree.specs.declared.objects.ClassLink.{ClassLink}
@@ -16,14 +16,14 @@ use Rattle.asn_tree.specs.declared.objects.ClassLink.TheVariants.{ByName, ByRefe
 use Rattle.asn_tree.specs.declared.objects.InformationObjectClass.{InformationObjectClass}
 use Rattle.asn_tree.specs.declared.objects.InformationObjectClassField.{InformationObjectClassField}
 use Rattle.asn_tree.specs.declared.objects.InformationObjectFields.{InformationObjectFields}
-use Rattle.asn_kinds.specs.declared.objects.ObjectSetOver.{ObjectSetOver}
-use Rattle.asn_kinds.specs.declared.objects.ObjectSetValueOver.{ObjectSetValueOver}
-use Rattle.asn_kinds.specs.declared.objects.ObjectSetValueOver.TheVariants.{Reference, Inline}
+use Rattle.asn_tree_kinds.specs.declared.objects.ObjectSetOver.{ObjectSetOver}
+use Rattle.asn_tree_kinds.specs.declared.objects.ObjectSetValueOver.{ObjectSetValueOver}
+use Rattle.asn_tree_kinds.specs.declared.objects.ObjectSetValueOver.TheVariants.{Reference, Inline}
 use Rattle.asn_tree.specs.declared.types.ASN1Type.{ASN1Type}
 use Rattle.asn_tree.specs.declared.types.ChoiceOption.{ChoiceOption, roll-ChoiceOption}
 use Rattle.asn_tree.specs.declared.types.SequenceOrSetMember.{SequenceOrSetMember, roll-SequenceOrSetMember}
 use Rattle.asn_tree.specs.declared.values.ASN1Value.{ASN1Value}
-use Rattle.asn_headers.specs.Environments.{added}
+use Rattle.asn_tree_headers.specs.Environments.{added}
 use Rattle.asn_tree.specs.Layers.{MemberLayer, OptionLayer}
 use Rattle.asn_tree.specs.Passes.{Pass, unchanged, rewritten_type, rewritten_value, rewritten_fields}
 

@@ -3,12 +3,12 @@
 use crate::objects::{InformationObjectFields, ObjectSet};
 use crate::types::ASN1Type;
 use crate::values::ASN1Value;
-use asn_kinds::{
+use asn_memory::{Box, List};
+use asn_tree_kinds::{
     ConstrainedComponentOver, ElementSetOver, InnerTypeConstraintOver, PatternConstraint,
     SetOperator, TableConstraintOver, UserDefinedConstraint,
 };
-use asn_memory::{Box, List};
-use asn_settings::PropertySettings;
+use asn_tree_settings::PropertySettings;
 
 /// A constraint on a type (X.680 49.6), or the arguments of the template that stands before it.
 #[cycle(tree)]

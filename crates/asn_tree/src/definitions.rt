@@ -6,8 +6,8 @@ ghost use Rattle.std.specs.Prelude.{◌≡◌};
 use crate::objects::{ASN1Information, ClassLink};
 use crate::types::ASN1Type;
 use crate::values::ASN1Value;
-use asn_headers::{AsnTag, ModuleReference};
 use asn_memory::{List, Text};
+use asn_tree_headers::{AsnTag, ModuleReference};
 
 /// The modules of a text in order, each with its definitions in order.
 pub type Reading = List<(ModuleReference, List<ToplevelDefinition>)>;

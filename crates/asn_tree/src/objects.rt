@@ -3,12 +3,12 @@
 use crate::constraints::Constraint;
 use crate::types::{ASN1Type, DeclarationElsewhere};
 use crate::values::ASN1Value;
-use asn_kinds::{
+use asn_memory::{List, Text};
+use asn_tree_kinds::{
     FixedValueFieldOver, InformationObjectFieldReferenceOver, ObjectSetFieldOver, ObjectSetOver,
     ObjectSetValueOver, TypeFieldOver,
 };
-use asn_memory::{List, Text};
-use asn_syntax::{InformationObjectSyntax, ObjectFieldIdentifier};
+use asn_tree_leaves::{InformationObjectSyntax, ObjectFieldIdentifier};
 
 /// The class of an object or an object set.
 pub enum ClassLink {

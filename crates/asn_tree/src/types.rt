@@ -1,6 +1,6 @@
 //! Types (X.680 clause 17).
 
-ghost use Rattle.asn_kinds.specs.declared.types.DeclarationElsewhereOver.{DeclarationElsewhereOver};
+ghost use Rattle.asn_tree_kinds.specs.declared.types.DeclarationElsewhereOver.{DeclarationElsewhereOver};
 ghost use Rattle.asn_tree.specs.declared.constraints.Constraint.{Constraint as OneConstraint};
 ghost use Rattle.asn_tree.specs.declared.types.ASN1Type.TheVariants as type;
 ghost use Rattle.std.specs.Prelude.{◌≡◌, IfErr, IfOk, OnErr};
@@ -8,13 +8,13 @@ ghost use Rattle.std.specs.Prelude.{◌≡◌, IfErr, IfOk, OnErr};
 use crate::constraints::Constraint;
 use crate::objects::InformationObjectFieldReference;
 use crate::values::ASN1Value;
-use asn_headers::AsnTag;
-use asn_kinds::{
+use asn_memory::{Box, List, Text};
+use asn_tree_headers::AsnTag;
+use asn_tree_kinds::{
     BitStringOver, BooleanOver, CharacterStringOver, ChoiceSelectionType, DeclarationElsewhereOver,
     DistinguishedValue, EnumeratedOver, GeneralizedTimeOver, ObjectIdentifierOver, OctetStringOver,
     RealOver, TimeOver, UTCTimeOver,
 };
-use asn_memory::{Box, List, Text};
 
 /// A type.
 #[cycle(tree)]

@@ -1,10 +1,10 @@
 //! Values (X.680 clauses 16 to 44).
 
 use crate::types::ASN1Type;
-use asn_headers::ObjectIdentifierValue;
-use asn_kinds::StructLikeFieldValueOver;
 use asn_memory::{Box, List, Text};
-use asn_words::{CharacterStringType, IntegerType, RealValue};
+use asn_tree_headers::ObjectIdentifierValue;
+use asn_tree_kinds::StructLikeFieldValueOver;
+use asn_tree_leaves::{CharacterStringType, IntegerType, RealValue};
 
 /// A value. Its notation is often that of several types: the variants tell what stands in the text, and those that
 /// begin with `Linked` what it is under its type.

@@ -11,7 +11,7 @@ use Rattle.asn_rules.specs.HeaderRules.{header_rules_before}
 use Rattle.asn_rules.specs.DefinitionRules.{definition_rules_before}
 use Rattle.asn_rules.specs.declared.names.TheConstants.{ASN1_TYPE, ASN1_VALUE, CONSTRAINT, CONSTRAINT_ITEM, CONTAINED_SUBTYPE, CONTENT_BODY, CONTENT_CONSTRAINT, DUMMY, ELEMENT_SET, IDENTIFIER, INFORMATION_OBJECT, MEMBER_LIST, MULTIPLE_TYPE_CONSTRAINTS, OBJECT_SET, PARAMETER, PARAMETERS, PERMITTED_ALPHABET_CONSTRAINT, RANGE_BODY, RANGE_HIGH, RANGE_LOW, SET_OPERATION, SET_OPERATOR, SET_REST, SINGLE_CONSTRAINT, SINGLE_TYPE_CONSTRAINT, SINGLE_VALUE, SIZE_CONSTRAINT, SUBSET_MEMBER, SUBTYPE_ELEMENT, TABLE_CONSTRAINT, VALUE_IDENTIFIER, VALUE_RANGE}
 use Rattle.asn_rules.proofs.Children.{asks, counts}
-use Rattle.asn_pieces.proofs.Firsts.{begins}
+use Rattle.asn_read_pieces.proofs.Firsts.{begins}
 use Rattle.asn_types.specs.Sets.{is_element}
 
 pub single_type_asks_constraints : asks whole_rules SINGLE_TYPE_CONSTRAINT CONSTRAINT ≡ true

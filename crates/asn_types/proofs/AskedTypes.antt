@@ -11,7 +11,7 @@ use Rattle.asn_rules.specs.HeaderRules.{header_rules_before}
 use Rattle.asn_rules.specs.DefinitionRules.{definition_rules_before}
 use Rattle.asn_rules.specs.declared.names.TheConstants.{ADDITION_LIST, ASN1_TYPE, CHOICE, CHOICE_OPTION, CLASS_NAME, COMPONENT_LIST, COMPONENT_PATH, DEFAULT, ELEMENT, ELSEWHERE_DECLARED_TYPE, ENUMERAL_LIST, ENUMERATED, IDENTIFIER, INFORMATION_OBJECT_FIELD_REFERENCE, INSTANCE_OF, OPTIONAL_MARKER, OPTION_ADDITIONS, OPTION_LIST, SEQUENCE, SEQUENCE_COMPONENT, SEQUENCE_OF, SEQUENCE_OR_SET_MEMBER, SET, SET_OF, STRUCT_BODY, TITLE_CASE_IDENTIFIER, VALUE_PATH}
 use Rattle.asn_rules.proofs.Children.{asks, asks_more, counts}
-use Rattle.asn_pieces.proofs.Firsts.{begins}
+use Rattle.asn_read_pieces.proofs.Firsts.{begins}
 use Rattle.asn_types.specs.Types.{is_type}
 
 -- a type begins with a node of one of the forms of types

@@ -12,8 +12,8 @@ use Rattle.asn_tree.specs.declared.types.ChoiceOption.{ChoiceOption}
 use Rattle.asn_tree.specs.declared.types.SequenceComponent.{SequenceComponent}
 use Rattle.asn_tree.specs.declared.types.SequenceComponent.TheVariants.{Member}
 use Rattle.asn_tree.specs.declared.types.SequenceOrSetMember.{SequenceOrSetMember}
-use Rattle.asn_literals.proofs.Equations.{behind}
-use Rattle.asn_literals.specs.Parts.{of_some}
+use Rattle.asn_read_nodes.proofs.Equations.{behind}
+use Rattle.asn_read_nodes.specs.Parts.{of_some}
 use Rattle.asn_types.specs.Children.{components_in, options_in}
 use Rattle.asn_types.specs.Choices.{one_option, option_with, options_before, options_made}
 use Rattle.asn_types.specs.Forms.{constraints_behind, parts_of}

@@ -8,14 +8,14 @@ use Rattle.asn_rules.specs.declared.node.Node.{Node}
 use Rattle.asn_rules.specs.declared.node.Node.TheViews.{out-Node, roll-Node, roll-out-Node}
 use Rattle.asn_rules.specs.Nodes.{at_child, at_children, child_among, child_of, closed, first_among, first_child_of, made, the}
 use Rattle.asn_rules.proofs.Nodes.{made_all_paired, made_paired, opened, paired, para_out}
-use Rattle.asn_kinds.specs.declared.constraints.ConstrainedComponentOver.{ConstrainedComponentOver}
-use Rattle.asn_kinds.specs.declared.constraints.ElementSetOver.{ElementSetOver}
+use Rattle.asn_tree_kinds.specs.declared.constraints.ConstrainedComponentOver.{ConstrainedComponentOver}
+use Rattle.asn_tree_kinds.specs.declared.constraints.ElementSetOver.{ElementSetOver}
 use Rattle.asn_tree.specs.declared.constraints.Constraint.{Constraint}
 use Rattle.asn_tree.specs.declared.constraints.ContentConstraint.{ContentConstraint}
 use Rattle.asn_tree.specs.declared.constraints.ElementOrSetOperation.{ElementOrSetOperation}
 use Rattle.asn_tree.specs.declared.constraints.SubtypeElement.{SubtypeElement}
 use Rattle.asn_tree.specs.declared.types.ASN1Type.{ASN1Type}
-use Rattle.asn_literals.specs.Parts.{all_some}
+use Rattle.asn_read_nodes.specs.Parts.{all_some}
 use Rattle.asn_types.specs.Read.{Read, nodes}
 use Rattle.asn_types.specs.Constraints.{arguments_with, containing_with, contents_with, element_with, encoded_with, subtype_with, table_with}
 use Rattle.asn_types.specs.Sets.{alphabet_with, contained_with, first_element, leaf_of, listed_one_with, multiple_types_with, one_with, operation_with, set_with, single_type_with, size_with}

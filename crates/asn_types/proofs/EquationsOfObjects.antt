@@ -5,7 +5,7 @@ use Rattle.asn_rules.specs.declared.node.Node.{Node}
 use Rattle.asn_rules.specs.declared.node.Node.TheViews.{out-Node}
 use Rattle.asn_rules.specs.Nodes.{at_child, at_children, child_among, child_of, made, the}
 use Rattle.asn_rules.proofs.Nodes.{made_all_paired, made_paired, paired, para_out}
-use Rattle.asn_literals.specs.Parts.{all_some, name_of}
+use Rattle.asn_read_nodes.specs.Parts.{all_some, name_of}
 use Rattle.asn_values.specs.Braces.{value_of}
 use Rattle.asn_types.specs.Objects.{by_name, by_syntax, custom_item_with, field_name, literal_item, named_object, object_set_with, set_given, set_item_with, type_given, type_item_with, value_given, value_item_or, written_object}
 use Rattle.asn_types.specs.Read.{Read, nodes}

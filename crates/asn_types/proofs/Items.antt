@@ -7,13 +7,13 @@ use Rattle.asn_rules.specs.Whole.{whole_rules}
 use Rattle.asn_rules.specs.declared.names.TheConstants.{ENUMERAL, ENUMERAL_LIST, ENUMERATED, IDENTIFIER, ITEM_COMMENT, ITEM_NUMBER, NUMBER_I128}
 use Rattle.asn_rules.specs.declared.node.Node.{Node}
 use Rattle.asn_rules.specs.declared.node.Node.TheViews.{out-Node}
-use Rattle.asn_guards.specs.Enumerations.{added_items, root_items}
-use Rattle.asn_numbers.specs.Enumeration.{AreNumbers, NumbersPass}
-use Rattle.asn_literals.proofs.EnumeratedItems.{items_are, numbers_fit_here}
-use Rattle.asn_literals.specs.Enumerals as enumerals
-use Rattle.asn_literals.specs.Parts.{all_some, if_there, integer_of, name_of, number_of, of_some, taken}
-use Rattle.asn_pieces.specs.Enumerations.{item_comment_of, item_of, items_in, items_of}
-use Rattle.asn_pieces.specs.declared.enumerations.WrittenItem.{WrittenItem}
+use Rattle.asn_rules_guards.specs.Enumerations.{added_items, root_items}
+use Rattle.asn_tree_numbers.specs.Enumeration.{AreNumbers, NumbersPass}
+use Rattle.asn_read_nodes.proofs.EnumeratedItems.{items_are, numbers_fit_here}
+use Rattle.asn_read_nodes.specs.Enumerals as enumerals
+use Rattle.asn_read_nodes.specs.Parts.{all_some, if_there, integer_of, name_of, number_of, of_some, taken}
+use Rattle.asn_read_pieces.specs.Enumerations.{item_comment_of, item_of, items_in, items_of}
+use Rattle.asn_read_pieces.specs.declared.enumerations.WrittenItem.{WrittenItem}
 use Rattle.asn_types.specs.Enumerations.{numbers_of, numbers_written}
 use Rattle.asn_types.proofs.Numbers.{numbers_are}
 

@@ -1,6 +1,6 @@
 -- The item that a type is, by the type's form.
 use Rattle.std.proofs.Common.{◌≡◌, refl, sym, ap, ◌∙◌}
-use Rattle.asn_kinds.specs.declared.types.DeclarationElsewhereOver.{DeclarationElsewhereOver}
+use Rattle.asn_tree_kinds.specs.declared.types.DeclarationElsewhereOver.{DeclarationElsewhereOver}
 use Rattle.asn_tree.specs.declared.constraints.Constraint.{Constraint}
 use Rattle.asn_tree.specs.declared.objects.SyntaxApplication.TheVariants.{TypeReference}
 use Rattle.asn_tree.specs.declared.types.ASN1Type.{ASN1Type, ASN1Type-F, out-ASN1Type, roll-ASN1Type, roll-out-ASN1Type}

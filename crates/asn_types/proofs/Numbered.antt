@@ -1,8 +1,8 @@
 -- Items are numbered one by one.
 use Rattle.std.proofs.Common.{◌≡◌, ℤ, List, [], ◌∷◌, ◌++◌, length, Some, None, refl, sym, ap, ◌∙◌, subst}
 use Rattle.std.specs.Prelude.{slice_get}
-use Rattle.asn_kinds.specs.declared.types.Enumeral.{Enumeral}
-use Rattle.asn_pieces.specs.declared.enumerations.WrittenItem.{WrittenItem}
+use Rattle.asn_tree_kinds.specs.declared.types.Enumeral.{Enumeral}
+use Rattle.asn_read_pieces.specs.declared.enumerations.WrittenItem.{WrittenItem}
 use Rattle.asn_types.specs.Enumerations.{numbered}
 
 abbrev with_number : WrittenItem → ℤ → Enumeral

@@ -4,12 +4,12 @@ use Rattle.std.specs.Prelude.{not, nat_lt, ◌&&◌, if◌then◌else◌}
 use Rattle.std.specs.List.{list_all}
 use Rattle.std.proofs.lemmas.Bool.Decides.{nat_tests}
 use Rattle.std.proofs.lemmas.Int.{ints}
-use Rattle.asn_numbers.specs.Enumeration.{has, written, if_fits, IsAbove, IsFree, IsNext, AreNumbers, AreOfAdditions, AreOfRoot, Numbered, NumbersPass, SomePasses, behind}
-use Rattle.asn_numbers.proofs.Counting.{additions_pass, root_passes}
-use Rattle.asn_numbers.specs.inner.Counting.{Passes}
-use Rattle.asn_guards.proofs.Numbered.{Least, least}
-use Rattle.asn_guards.specs.Enumerations.{least_free}
-use Rattle.asn_literals.specs.Parts.{of_some}
+use Rattle.asn_tree_numbers.specs.Enumeration.{has, written, if_fits, IsAbove, IsFree, IsNext, AreNumbers, AreOfAdditions, AreOfRoot, Numbered, NumbersPass, SomePasses, behind}
+use Rattle.asn_tree_numbers.proofs.Counting.{additions_pass, root_passes}
+use Rattle.asn_tree_numbers.specs.inner.Counting.{Passes}
+use Rattle.asn_rules_guards.proofs.Numbered.{Least, least}
+use Rattle.asn_rules_guards.specs.Enumerations.{least_free}
+use Rattle.asn_read_nodes.specs.Parts.{of_some}
 use Rattle.asn_types.specs.Enumerations.{is_above, is_free, next, numbers_from, numbers_of, with_earlier}
 
 -- The test tells what is free.

@@ -8,8 +8,8 @@ use Rattle.asn_rules.specs.declared.names.TheConstants.{ASN1_TYPE, ASN1_VALUE, C
 use Rattle.asn_rules.specs.declared.node.Node.{Node}
 use Rattle.asn_rules.specs.declared.node.Node.TheViews.{out-Node}
 use Rattle.asn_rules.proofs.Children.{bounds, first_stands, has_child, one_if, times}
-use Rattle.asn_literals.proofs.Views.{some_among, without}
-use Rattle.asn_pieces.proofs.Firsts.{first_passes, has_first}
+use Rattle.asn_read_nodes.proofs.Views.{some_among, without}
+use Rattle.asn_read_pieces.proofs.Firsts.{first_passes, has_first}
 use Rattle.asn_types.proofs.AskedConstraints as asked
 use Rattle.asn_types.specs.Sets.{IsElement, is_element}
 

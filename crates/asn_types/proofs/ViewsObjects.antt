@@ -8,7 +8,7 @@ use Rattle.asn_rules.specs.declared.names.TheConstants.{ASN1_TYPE, ASN1_VALUE, C
 use Rattle.asn_rules.specs.declared.node.Node.{Node}
 use Rattle.asn_rules.specs.declared.node.Node.TheViews.{out-Node}
 use Rattle.asn_rules.proofs.Children.{bounds, has_child}
-use Rattle.asn_literals.proofs.Views.{some_among, without}
+use Rattle.asn_read_nodes.proofs.Views.{some_among, without}
 use Rattle.asn_types.proofs.AskedObjects as asked
 
 pub class_field_has_name : (text : List ℕ) (n : Node) → Is whole_rules text CLASS_FIELD n → IsSome (child_of n OBJECT_FIELD_IDENTIFIER)

@@ -8,9 +8,9 @@ use Rattle.asn_tree.specs.MakingTypes as making
 use Rattle.asn_tree.specs.declared.constraints.Constraint.{Constraint}
 use Rattle.asn_tree.specs.declared.types.ASN1Type.{ASN1Type, ASN1Type-F, roll-ASN1Type}
 use Rattle.asn_tree.specs.declared.types.ChoiceOption.{ChoiceOption}
-use Rattle.asn_literals.specs.Parts.{if_there, name_of, of_some}
-use Rattle.asn_pieces.specs.Tags.{tag_of}
-use Rattle.asn_pieces.specs.Words.{extension_of}
+use Rattle.asn_read_nodes.specs.Parts.{if_there, name_of, of_some}
+use Rattle.asn_read_pieces.specs.Tags.{tag_of}
+use Rattle.asn_read_pieces.specs.Words.{extension_of}
 use Rattle.asn_types.specs.Read.{Read}
 
 -- an option: its name, its tag where it stands, its type, and the constraints behind the type, where they are the option's own

@@ -1,23 +1,23 @@
 -- Classes (X.681 9).
 use Rattle.std.specs.Prelude.{ℕ, List, [], ◌∷◌, Bool, true, false, ◌||◌, codes, is_some, Option, Some, None}
-use Rattle.asn_markers.specs.declared.OptionalMarker.{OptionalMarker}
+use Rattle.asn_tree_leaves.specs.declared.markers.OptionalMarker.{OptionalMarker}
 use Rattle.asn_rules.specs.declared.names.TheConstants.{ASN1_TYPE, CLASS_FIELD, DEFAULT, FIELD_LIST, OBJECT_FIELD_IDENTIFIER, OPTIONAL_MARKER, SYNTAX_PART}
 use Rattle.asn_rules.specs.declared.node.Node.{Node}
 use Rattle.asn_rules.specs.declared.node.Node.TheViews.{out-Node}
 use Rattle.asn_rules.specs.Nodes.{at_children, child_of, the}
-use Rattle.asn_syntax.specs.declared.objects.ObjectFieldIdentifier.{ObjectFieldIdentifier}
-use Rattle.asn_syntax.specs.declared.objects.ObjectFieldIdentifier.TheVariants.{MultipleValue, SingleValue}
-use Rattle.asn_syntax.specs.declared.objects.SyntaxExpression.TheVariants.{Required}
-use Rattle.asn_syntax.specs.declared.objects.SyntaxToken.TheVariants.{Field, Literal}
+use Rattle.asn_tree_leaves.specs.declared.objects.ObjectFieldIdentifier.{ObjectFieldIdentifier}
+use Rattle.asn_tree_leaves.specs.declared.objects.ObjectFieldIdentifier.TheVariants.{MultipleValue, SingleValue}
+use Rattle.asn_tree_leaves.specs.declared.objects.SyntaxExpression.TheVariants.{Required}
+use Rattle.asn_tree_leaves.specs.declared.objects.SyntaxToken.TheVariants.{Field, Literal}
 use Rattle.asn_tree.specs.declared.objects.InformationObjectClass.{InformationObjectClass}
 use Rattle.asn_tree.specs.declared.objects.InformationObjectClassField.{InformationObjectClassField}
 use Rattle.asn_tree.specs.declared.types.ASN1Type.{ASN1Type}
 use Rattle.asn_tree.specs.declared.types.ASN1Type.TheVariants.{ObjectIdentifier}
 use Rattle.asn_tree.specs.declared.values.ASN1Value.{ASN1Value}
-use Rattle.asn_literals.specs.Parts.{all_some, if_there, of_some}
-use Rattle.asn_pieces.specs.Fields.{field_of}
-use Rattle.asn_pieces.specs.Syntax.{syntax_of}
-use Rattle.asn_pieces.specs.Words.{optional_of, unique_of}
+use Rattle.asn_read_nodes.specs.Parts.{all_some, if_there, of_some}
+use Rattle.asn_read_pieces.specs.Fields.{field_of}
+use Rattle.asn_read_pieces.specs.Syntax.{syntax_of}
+use Rattle.asn_read_pieces.specs.Words.{optional_of, unique_of}
 use Rattle.asn_types.specs.Members.{default_of}
 use Rattle.asn_types.specs.Reading.{type_of}
 

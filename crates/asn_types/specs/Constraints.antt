@@ -3,9 +3,9 @@ use Rattle.std.specs.Prelude.{ℕ, List, [], false, Option, Some, None}
 use Rattle.asn_rules.specs.declared.names.TheConstants.{ASN1_TYPE, ASN1_VALUE, CONSTRAINT_ITEM, CONTENT_BODY, CONTENT_CONSTRAINT, ELEMENT_SET, OBJECT_SET, PARAMETERS, RELATIONS, SINGLE_CONSTRAINT, SIZE_CONSTRAINT, TABLE_CONSTRAINT}
 use Rattle.asn_rules.specs.declared.node.Node.{Node}
 use Rattle.asn_rules.specs.Nodes.{Opened, at_child, child_among, made, made_all, the}
-use Rattle.asn_kinds.specs.declared.constraints.ElementSetOver.{ElementSetOver}
-use Rattle.asn_kinds.specs.declared.constraints.RelationalConstraint.{RelationalConstraint}
-use Rattle.asn_kinds.specs.declared.objects.ObjectSetOver.{ObjectSetOver}
+use Rattle.asn_tree_kinds.specs.declared.constraints.ElementSetOver.{ElementSetOver}
+use Rattle.asn_tree_kinds.specs.declared.constraints.RelationalConstraint.{RelationalConstraint}
+use Rattle.asn_tree_kinds.specs.declared.objects.ObjectSetOver.{ObjectSetOver}
 use Rattle.asn_tree.specs.declared.constraints.Constraint.{Constraint}
 use Rattle.asn_tree.specs.declared.constraints.Constraint.TheVariants as constraint
 use Rattle.asn_tree.specs.declared.constraints.ContentConstraint.{ContentConstraint}
@@ -16,8 +16,8 @@ use Rattle.asn_tree.specs.declared.constraints.Parameter.{Parameter}
 use Rattle.asn_tree.specs.declared.constraints.SubtypeElement.{SubtypeElement}
 use Rattle.asn_tree.specs.declared.objects.InformationObjectFields.{InformationObjectFields}
 use Rattle.asn_tree.specs.declared.types.ASN1Type.{ASN1Type}
-use Rattle.asn_literals.specs.Parts.{all_some, of_some}
-use Rattle.asn_pieces.specs.Constraints.{relations_of}
+use Rattle.asn_read_nodes.specs.Parts.{all_some, of_some}
+use Rattle.asn_read_pieces.specs.Constraints.{relations_of}
 use Rattle.asn_values.specs.Braces.{value_of}
 use Rattle.asn_types.specs.Read.{Read, nodes}
 

@@ -8,7 +8,7 @@ use Rattle.asn_tree.specs.declared.definitions.ParameterGovernor.{ParameterGover
 use Rattle.asn_tree.specs.declared.definitions.ParameterGovernor.TheVariants as governor
 use Rattle.asn_tree.specs.declared.definitions.Parameterization.{Parameterization}
 use Rattle.asn_tree.specs.declared.definitions.ParameterizationArgument.{ParameterizationArgument}
-use Rattle.asn_literals.specs.Parts.{all_some, name_of, of_some}
+use Rattle.asn_read_nodes.specs.Parts.{all_some, name_of, of_some}
 use Rattle.asn_types.specs.Reading.{type_of}
 
 -- the name with what governs it

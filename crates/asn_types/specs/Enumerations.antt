@@ -2,19 +2,19 @@
 use Rattle.std.specs.Prelude.{ℕ, ℤ, pos, negsuc, nat_lt, List, [], ◌∷◌, ◌++◌, map, length, Bool, true, false, not, ◌&&◌, Option, Some, None}
 use Rattle.std.specs.List.{list_all}
 use Rattle.std.specs.Option.{option_map}
-use Rattle.asn_markers.specs.declared.ExtensionMarker.{ExtensionMarker}
+use Rattle.asn_tree_leaves.specs.declared.markers.ExtensionMarker.{ExtensionMarker}
 use Rattle.asn_rules.specs.declared.names.TheConstants.{ENUMERAL_LIST}
 use Rattle.asn_rules.specs.declared.node.Node.{Node}
 use Rattle.asn_rules.specs.Nodes.{nth_child_of, the}
-use Rattle.asn_kinds.specs.declared.types.Enumeral.{Enumeral}
+use Rattle.asn_tree_kinds.specs.declared.types.Enumeral.{Enumeral}
 use Rattle.asn_tree.specs.declared.types.ASN1Type.{ASN1Type}
 use Rattle.asn_tree.specs.declared.types.ASN1Type.TheVariants.{Enumerated}
-use Rattle.asn_numbers.specs.Enumeration.{has, if_fits, written}
-use Rattle.asn_guards.specs.Enumerations.{least_free}
-use Rattle.asn_literals.specs.Parts.{of_some}
-use Rattle.asn_pieces.specs.Enumerations.{items_of}
-use Rattle.asn_pieces.specs.Words.{extension_of}
-use Rattle.asn_pieces.specs.declared.enumerations.WrittenItem.{WrittenItem}
+use Rattle.asn_tree_numbers.specs.Enumeration.{has, if_fits, written}
+use Rattle.asn_rules_guards.specs.Enumerations.{least_free}
+use Rattle.asn_read_nodes.specs.Parts.{of_some}
+use Rattle.asn_read_pieces.specs.Enumerations.{items_of}
+use Rattle.asn_read_pieces.specs.Words.{extension_of}
+use Rattle.asn_read_pieces.specs.declared.enumerations.WrittenItem.{WrittenItem}
 
 abbrev pub is_above : ℕ → ℤ → Bool
 is_above n (pos m) = nat_lt m n

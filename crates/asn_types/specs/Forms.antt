@@ -3,7 +3,7 @@ use Rattle.std.specs.Prelude.{ℕ, List, [], Option, Some}
 use Rattle.asn_rules.specs.declared.names.TheConstants.{CONSTRAINT, ELEMENT, OPTION_ADDITIONS, OPTION_LIST, STRUCT_BODY}
 use Rattle.asn_rules.specs.declared.node.Node.{Node}
 use Rattle.asn_rules.specs.Nodes.{at_child, child_of, the}
-use Rattle.asn_kinds.specs.declared.objects.InformationObjectFieldReferenceOver.{InformationObjectFieldReferenceOver}
+use Rattle.asn_tree_kinds.specs.declared.objects.InformationObjectFieldReferenceOver.{InformationObjectFieldReferenceOver}
 use Rattle.asn_tree.specs.declared.constraints.Constraint.{Constraint}
 use Rattle.asn_tree.specs.declared.types.ASN1Type.{ASN1Type}
 use Rattle.asn_types.specs.Choices.{choice_with}

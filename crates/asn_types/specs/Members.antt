@@ -1,6 +1,6 @@
 -- The members of SEQUENCE and SET (X.680 25.1, 27.1).
 use Rattle.std.specs.Prelude.{ℕ, List, [], ◌∷◌, ◌++◌, nat_eq, if◌then◌else◌, Option, Some, None}
-use Rattle.asn_markers.specs.declared.ExtensionMarker.{ExtensionMarker}
+use Rattle.asn_tree_leaves.specs.declared.markers.ExtensionMarker.{ExtensionMarker}
 use Rattle.asn_rules.specs.declared.names.TheConstants.{ADDITION_LIST, ASN1_TYPE, ASN1_VALUE, ASN_TAG, COMPONENT_LIST, COMPONENT_PATH, CONSTRAINT, DEFAULT, EXTENSION_GROUP, IDENTIFIER, OPTIONAL_MARKER, SEQUENCE_COMPONENT, SEQUENCE_OR_SET_MEMBER}
 use Rattle.asn_rules.specs.declared.node.Node.{Node}
 use Rattle.asn_rules.specs.declared.node.Node.TheViews.{out-Node}
@@ -13,11 +13,11 @@ use Rattle.asn_tree.specs.declared.types.SequenceComponent.TheVariants.{Componen
 use Rattle.asn_tree.specs.declared.types.SequenceOrSet.{SequenceOrSet}
 use Rattle.asn_tree.specs.declared.types.SequenceOrSetMember.{SequenceOrSetMember}
 use Rattle.asn_tree.specs.declared.values.ASN1Value.{ASN1Value}
-use Rattle.asn_literals.specs.Parts.{if_there, name_of, of_some}
-use Rattle.asn_pieces.specs.Fields.{component_path_of}
-use Rattle.asn_pieces.specs.Tags.{tag_of}
-use Rattle.asn_pieces.specs.Types.{group_name_of}
-use Rattle.asn_pieces.specs.Words.{extension_of, optional_of}
+use Rattle.asn_read_nodes.specs.Parts.{if_there, name_of, of_some}
+use Rattle.asn_read_pieces.specs.Fields.{component_path_of}
+use Rattle.asn_read_pieces.specs.Tags.{tag_of}
+use Rattle.asn_read_pieces.specs.Types.{group_name_of}
+use Rattle.asn_read_pieces.specs.Words.{extension_of, optional_of}
 use Rattle.asn_values.specs.Braces.{value_of}
 use Rattle.asn_types.specs.Read.{Read}
 

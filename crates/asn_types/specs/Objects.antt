@@ -1,9 +1,9 @@
 -- Objects and sets of objects (X.681 11, 12): what a node is as a part of one, by what its children are.
 use Rattle.std.specs.Prelude.{ℕ, List, [], ◌++◌, length, Option, Some, None}
-use Rattle.asn_kinds.specs.declared.objects.ObjectSetOver.{ObjectSetOver}
-use Rattle.asn_kinds.specs.declared.objects.ObjectSetValueOver.{ObjectSetValueOver}
-use Rattle.asn_kinds.specs.declared.objects.ObjectSetValueOver.TheVariants.{Inline, Reference}
-use Rattle.asn_kinds.specs.declared.types.DeclarationElsewhereOver.{DeclarationElsewhereOver}
+use Rattle.asn_tree_kinds.specs.declared.objects.ObjectSetOver.{ObjectSetOver}
+use Rattle.asn_tree_kinds.specs.declared.objects.ObjectSetValueOver.{ObjectSetValueOver}
+use Rattle.asn_tree_kinds.specs.declared.objects.ObjectSetValueOver.TheVariants.{Inline, Reference}
+use Rattle.asn_tree_kinds.specs.declared.types.DeclarationElsewhereOver.{DeclarationElsewhereOver}
 use Rattle.asn_rules.specs.declared.names.TheConstants.{ASN1_TYPE, ASN1_VALUE, CUSTOM_ITEM, CUSTOM_SYNTAX, DEFAULT_FIELD, DEFAULT_SYNTAX, IDENTIFIER, INFORMATION_OBJECT, LITERAL_WORD, MARK_COMMA, MULTIPLE_VALUE_FIELD_ID, OBJECT_ITEM, OBJECT_LIST, OBJECT_SET, SET_MARK, SET_MORE, SINGLE_VALUE_FIELD_ID, SYNTAX_LITERAL}
 use Rattle.asn_rules.specs.declared.node.Node.{Node}
 use Rattle.asn_rules.specs.Nodes.{Opened, at_child, child_among, made, made_all, the}
@@ -17,8 +17,8 @@ use Rattle.asn_tree.specs.declared.objects.SyntaxApplication.TheVariants.{Comma,
 use Rattle.asn_tree.specs.declared.types.ASN1Type.{ASN1Type, ASN1Type-F, out-ASN1Type}
 use Rattle.asn_tree.specs.declared.values.ASN1Value.{ASN1Value}
 use Rattle.asn_tree.specs.Layers.{TypeLayer}
-use Rattle.asn_literals.specs.Parts.{all_some, name_of, of_some}
-use Rattle.asn_pieces.specs.Fields.{capitals_of}
+use Rattle.asn_read_nodes.specs.Parts.{all_some, name_of, of_some}
+use Rattle.asn_read_pieces.specs.Fields.{capitals_of}
 use Rattle.asn_values.specs.Braces.{value_of}
 use Rattle.asn_types.specs.Read.{Read, nodes}
 

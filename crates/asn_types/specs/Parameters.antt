@@ -3,12 +3,12 @@ use Rattle.std.specs.Prelude.{ℕ, List, Option, Some, None}
 use Rattle.asn_rules.specs.declared.names.TheConstants.{ASN1_TYPE, ASN1_VALUE, INFORMATION_OBJECT, OBJECT_SET, PARAMETER}
 use Rattle.asn_rules.specs.declared.node.Node.{Node}
 use Rattle.asn_rules.specs.Nodes.{Opened, at_child, child_among, made, made_all}
-use Rattle.asn_kinds.specs.declared.objects.ObjectSetOver.{ObjectSetOver}
+use Rattle.asn_tree_kinds.specs.declared.objects.ObjectSetOver.{ObjectSetOver}
 use Rattle.asn_tree.specs.declared.constraints.Parameter.{Parameter}
 use Rattle.asn_tree.specs.declared.constraints.Parameter.TheVariants.{InformationObjectParameter, ObjectSetParameter, TypeParameter, ValueParameter}
 use Rattle.asn_tree.specs.declared.objects.InformationObjectFields.{InformationObjectFields}
 use Rattle.asn_tree.specs.declared.types.ASN1Type.{ASN1Type}
-use Rattle.asn_literals.specs.Parts.{all_some, of_some}
+use Rattle.asn_read_nodes.specs.Parts.{all_some, of_some}
 use Rattle.asn_values.specs.Braces.{value_of}
 use Rattle.asn_types.specs.Read.{Read, nodes}
 

@@ -1,10 +1,10 @@
 -- What a node is as each part of a type, a constraint or an object. These lead back to each other, so they are told together.
 use Rattle.std.specs.Prelude.{List, map, Option}
 use Rattle.asn_rules.specs.declared.node.Node.{Node}
-use Rattle.asn_kinds.specs.declared.constraints.ConstrainedComponentOver.{ConstrainedComponentOver}
-use Rattle.asn_kinds.specs.declared.constraints.ElementSetOver.{ElementSetOver}
-use Rattle.asn_kinds.specs.declared.objects.ObjectSetOver.{ObjectSetOver}
-use Rattle.asn_kinds.specs.declared.objects.ObjectSetValueOver.{ObjectSetValueOver}
+use Rattle.asn_tree_kinds.specs.declared.constraints.ConstrainedComponentOver.{ConstrainedComponentOver}
+use Rattle.asn_tree_kinds.specs.declared.constraints.ElementSetOver.{ElementSetOver}
+use Rattle.asn_tree_kinds.specs.declared.objects.ObjectSetOver.{ObjectSetOver}
+use Rattle.asn_tree_kinds.specs.declared.objects.ObjectSetValueOver.{ObjectSetValueOver}
 use Rattle.asn_tree.specs.declared.constraints.Constraint.{Constraint}
 use Rattle.asn_tree.specs.declared.constraints.ContentConstraint.{ContentConstraint}
 use Rattle.asn_tree.specs.declared.constraints.ElementOrSetOperation.{ElementOrSetOperation}

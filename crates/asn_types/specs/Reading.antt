@@ -2,10 +2,10 @@
 use Rattle.std.specs.Prelude.{ℕ, List, Option}
 use Rattle.asn_rules.specs.declared.node.Node.{Node}
 use Rattle.asn_rules.specs.Nodes.{Opened, para}
-use Rattle.asn_kinds.specs.declared.constraints.ConstrainedComponentOver.{ConstrainedComponentOver}
-use Rattle.asn_kinds.specs.declared.constraints.ElementSetOver.{ElementSetOver}
-use Rattle.asn_kinds.specs.declared.objects.ObjectSetOver.{ObjectSetOver}
-use Rattle.asn_kinds.specs.declared.objects.ObjectSetValueOver.{ObjectSetValueOver}
+use Rattle.asn_tree_kinds.specs.declared.constraints.ConstrainedComponentOver.{ConstrainedComponentOver}
+use Rattle.asn_tree_kinds.specs.declared.constraints.ElementSetOver.{ElementSetOver}
+use Rattle.asn_tree_kinds.specs.declared.objects.ObjectSetOver.{ObjectSetOver}
+use Rattle.asn_tree_kinds.specs.declared.objects.ObjectSetValueOver.{ObjectSetValueOver}
 use Rattle.asn_tree.specs.declared.constraints.Constraint.{Constraint}
 use Rattle.asn_tree.specs.declared.constraints.ContentConstraint.{ContentConstraint}
 use Rattle.asn_tree.specs.declared.constraints.ElementOrSetOperation.{ElementOrSetOperation}

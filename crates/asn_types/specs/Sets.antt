@@ -6,9 +6,9 @@ use Rattle.asn_rules.specs.declared.node.Node.TheViews.{out-Node}
 use Rattle.asn_rules.specs.Children.{StandsBy}
 use Rattle.asn_rules.specs.Whole.{whole_rules}
 use Rattle.asn_rules.specs.Nodes.{Opened, closed, child_among, child_of, made, made_all, the}
-use Rattle.asn_kinds.specs.declared.constraints.ConstrainedComponentOver.{ConstrainedComponentOver}
-use Rattle.asn_kinds.specs.declared.constraints.ElementSetOver.{ElementSetOver}
-use Rattle.asn_kinds.specs.declared.constraints.SetOperator.{SetOperator}
+use Rattle.asn_tree_kinds.specs.declared.constraints.ConstrainedComponentOver.{ConstrainedComponentOver}
+use Rattle.asn_tree_kinds.specs.declared.constraints.ElementSetOver.{ElementSetOver}
+use Rattle.asn_tree_kinds.specs.declared.constraints.SetOperator.{SetOperator}
 use Rattle.asn_tree.specs.MakingConstraints as making
 use Rattle.asn_tree.specs.declared.constraints.Constraint.{Constraint}
 use Rattle.asn_tree.specs.declared.constraints.ElementOrSetOperation.{ElementOrSetOperation}
@@ -17,10 +17,10 @@ use Rattle.asn_tree.specs.declared.constraints.SubtypeElement.{SubtypeElement}
 use Rattle.asn_tree.specs.declared.constraints.SubtypeElement.TheVariants as element
 use Rattle.asn_tree.specs.declared.types.ASN1Type.{ASN1Type}
 use Rattle.asn_tree.specs.declared.values.ASN1Value.{ASN1Value}
-use Rattle.asn_literals.specs.Parts.{all_some, if_there, name_of, of_some}
-use Rattle.asn_pieces.specs.Constraints.{pattern_of, user_defined_of}
-use Rattle.asn_pieces.specs.Settings.{settings_of}
-use Rattle.asn_pieces.specs.Words.{extensible_of, high_open_of, low_open_of, operator_of, partial_of, presence_of}
+use Rattle.asn_read_nodes.specs.Parts.{all_some, if_there, name_of, of_some}
+use Rattle.asn_read_pieces.specs.Constraints.{pattern_of, user_defined_of}
+use Rattle.asn_read_pieces.specs.Settings.{settings_of}
+use Rattle.asn_read_pieces.specs.Words.{extensible_of, high_open_of, low_open_of, operator_of, partial_of, presence_of}
 use Rattle.asn_values.specs.Braces.{value_of}
 use Rattle.asn_types.specs.Read.{Read, nodes}
 

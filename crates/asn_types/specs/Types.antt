@@ -6,10 +6,10 @@ use Rattle.asn_rules.specs.declared.node.Node.TheViews.{out-Node}
 use Rattle.asn_rules.specs.Children.{StandsBy}
 use Rattle.asn_rules.specs.Nodes.{Opened, child_of, closed, made, the}
 use Rattle.asn_rules.specs.Whole.{whole_rules}
-use Rattle.asn_kinds.specs.declared.objects.InformationObjectFieldReferenceOver.{InformationObjectFieldReferenceOver}
-use Rattle.asn_kinds.specs.declared.types.DistinguishedValue.{DistinguishedValue}
-use Rattle.asn_syntax.specs.declared.objects.ObjectFieldIdentifier.{ObjectFieldIdentifier}
-use Rattle.asn_syntax.specs.declared.objects.ObjectFieldIdentifier.TheVariants.{MultipleValue}
+use Rattle.asn_tree_kinds.specs.declared.objects.InformationObjectFieldReferenceOver.{InformationObjectFieldReferenceOver}
+use Rattle.asn_tree_kinds.specs.declared.types.DistinguishedValue.{DistinguishedValue}
+use Rattle.asn_tree_leaves.specs.declared.objects.ObjectFieldIdentifier.{ObjectFieldIdentifier}
+use Rattle.asn_tree_leaves.specs.declared.objects.ObjectFieldIdentifier.TheVariants.{MultipleValue}
 use Rattle.asn_tree.specs.MakingTypes.{list_of}
 use Rattle.asn_tree.specs.declared.constraints.Constraint.{Constraint}
 use Rattle.asn_tree.specs.declared.types.ASN1Type.{ASN1Type, ASN1Type-F, roll-ASN1Type}
@@ -17,12 +17,12 @@ use Rattle.asn_tree.specs.declared.types.ASN1Type.TheVariants as ty
 use Rattle.asn_tree.specs.declared.types.ChoiceOption.{ChoiceOption}
 use Rattle.asn_tree.specs.declared.types.SequenceOrSet.{SequenceOrSet, out-SequenceOrSet, roll-SequenceOrSet}
 use Rattle.asn_calls.specs.Types.{builtin_named, elsewhere}
-use Rattle.asn_literals.specs.Parts.{if_there, name_of, of_some}
-use Rattle.asn_literals.specs.Paths.{parent_of}
-use Rattle.asn_pieces.specs.Fields.{capitals_of, field_path_of}
-use Rattle.asn_pieces.specs.Numbers.{distinguished_values_of}
-use Rattle.asn_pieces.specs.Types.{selection_of}
-use Rattle.asn_pieces.specs.Words.{string_type_of}
+use Rattle.asn_read_nodes.specs.Parts.{if_there, name_of, of_some}
+use Rattle.asn_read_nodes.specs.Paths.{parent_of}
+use Rattle.asn_read_pieces.specs.Fields.{capitals_of, field_path_of}
+use Rattle.asn_read_pieces.specs.Numbers.{distinguished_values_of}
+use Rattle.asn_read_pieces.specs.Types.{selection_of}
+use Rattle.asn_read_pieces.specs.Words.{string_type_of}
 use Rattle.asn_types.specs.Choices.{choice_with}
 use Rattle.asn_types.specs.Enumerations.{enumerated_with}
 use Rattle.asn_types.specs.Read.{Read}

@@ -1,6 +1,6 @@
 //! The arguments of templates (X.683 9.1).
 
-ghost use Rattle.asn_literals.specs.Parts.{all_some};
+ghost use Rattle.asn_read_nodes.specs.Parts.{all_some};
 ghost use Rattle.asn_rules.specs.Children.{Is, StandsBy};
 ghost use Rattle.asn_rules.specs.Nodes.{at_children};
 ghost use Rattle.asn_rules.specs.Whole.{whole_rules};
@@ -10,8 +10,8 @@ ghost use Rattle.std.specs.Prelude.{◌≡◌, All, IfOk, Some};
 
 use crate::objects::{read_object, read_object_set};
 use crate::types::read_type;
-use asn_literals::children;
 use asn_memory::{List, Mem};
+use asn_read_nodes::children;
 use asn_rules::{Node, names};
 use asn_tree::Parameter;
 use asn_values::read_value;
@@ -28,7 +28,7 @@ pub(crate) fn read_parameters(alloc: Global, text: &[u8], node: &Node) -> Mem<Li
 }
 
 #[cycle(reading)]
-#[tactic(auto, using(asn_literals::proofs::Views::as_rule, asn_literals::proofs::Equations::takes_next, asn_literals::proofs::Equations::passes_next))]
+#[tactic(auto, using(asn_read_nodes::proofs::Views::as_rule, asn_read_nodes::proofs::Equations::takes_next, asn_read_nodes::proofs::Equations::passes_next))]
 fn read_each(alloc: Global, text: &[u8], nodes: &[Node]) -> Mem<List<Parameter>>
     requires { All (StandsBy whole_rules text.now) nodes.now }
     ensures { IfOk result (λ arguments. all_some (at_children nodes.now PARAMETER (parameter_of text.now)) ≡ Some arguments) }

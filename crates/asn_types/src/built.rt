@@ -4,7 +4,7 @@
 //! `match_rule` of asn_match answers it, and for an offset, in bytes from the start of the text, where its rule has ended. It
 //! tries nothing.
 
-ghost use Rattle.asn_literals.specs.Reads.{BuiltAt, Offers};
+ghost use Rattle.asn_read_nodes.specs.Reads.{BuiltAt, Offers};
 ghost use Rattle.asn_rules.specs.declared.names.TheConstants.{ASN1_TYPE, INFORMATION_OBJECT, INFORMATION_OBJECT_CLASS, OBJECT_SET, PARAMETERIZATION, TYPE_IDENTIFIER};
 ghost use Rattle.asn_types.specs.Classes as classes;
 ghost use Rattle.asn_types.specs.Dummies.{parameterization_of};
@@ -15,9 +15,9 @@ use crate::classes::{built_in_class, read_class};
 use crate::dummies::read_parameterization;
 use crate::objects::{read_object, read_object_set};
 use crate::types::read_type;
-use asn_literals::node_at;
 use asn_match::MatchTable;
 use asn_memory::Mem;
+use asn_read_nodes::node_at;
 use asn_rules::names;
 use asn_tree::{
     ASN1Type, InformationObjectClass, InformationObjectFields, ObjectSet, Parameterization,

@@ -1,7 +1,7 @@
 //! CHOICE and its options.
 
-ghost use Rattle.asn_literals.specs.Parts.{if_there};
-ghost use Rattle.asn_pieces.specs.Tags.{tag_of};
+ghost use Rattle.asn_read_nodes.specs.Parts.{if_there};
+ghost use Rattle.asn_read_pieces.specs.Tags.{tag_of};
 ghost use Rattle.asn_rules.specs.Children.{Is, StandsBy};
 ghost use Rattle.asn_rules.specs.Nodes.{child_of};
 ghost use Rattle.asn_rules.specs.Whole.{whole_rules};
@@ -13,12 +13,12 @@ ghost use Rattle.asn_tree.specs.MakingTypes as making;
 ghost use Rattle.std.specs.Prelude.{◌≡◌, All, IfOk, Some};
 
 use crate::types::{read_behind, read_type};
-use asn_headers::AsnTag;
-use asn_literals::{children, read_name};
 use asn_memory::{List, Mem, Text};
-use asn_pieces::{read_extension, read_tag};
+use asn_read_nodes::{children, read_name};
+use asn_read_pieces::{read_extension, read_tag};
 use asn_rules::{Node, names};
 use asn_tree::{ASN1Type, Choice, ChoiceOption, Constraint};
+use asn_tree_headers::AsnTag;
 use std::alloc::Global;
 
 /// The tag before a type, where it stands (X.680 31.2).
@@ -52,7 +52,7 @@ fn option(
 
 /// An option: its name, its tag, its type, and the constraints behind the type (X.680 29.1).
 #[cycle(reading)]
-#[tactic(auto, using(crate::proofs::Equations::option_is, crate::proofs::ViewsTypes::option_has_name, crate::proofs::ViewsTypes::option_has_type, asn_literals::proofs::Views::identifier_has_blanks))]
+#[tactic(auto, using(crate::proofs::Equations::option_is, crate::proofs::ViewsTypes::option_has_name, crate::proofs::ViewsTypes::option_has_type, asn_read_nodes::proofs::Views::identifier_has_blanks))]
 fn read_option(alloc: Global, text: &[u8], node: &Node) -> Mem<ChoiceOption>
     requires { Is whole_rules text.now CHOICE_OPTION node.now }
     ensures { IfOk result (λ made. option_of text.now node.now ≡ Some made) }
@@ -75,7 +75,7 @@ fn read_options(alloc: Global, text: &[u8], node: &Node) -> Mem<List<ChoiceOptio
 }
 
 #[cycle(reading)]
-#[tactic(auto, using(asn_literals::proofs::Views::as_rule, crate::proofs::Equations::takes_option, crate::proofs::Equations::takes_options, crate::proofs::Equations::passes_option))]
+#[tactic(auto, using(asn_read_nodes::proofs::Views::as_rule, crate::proofs::Equations::takes_option, crate::proofs::Equations::takes_options, crate::proofs::Equations::passes_option))]
 fn read_option_list(alloc: Global, text: &[u8], nodes: &[Node]) -> Mem<List<ChoiceOption>>
     requires { All (StandsBy whole_rules text.now) nodes.now }
     ensures { IfOk result (λ options. options_in text.now nodes.now ≡ Some options) }

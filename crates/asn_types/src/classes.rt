@@ -1,7 +1,7 @@
 //! Classes: their fields, and the built-in one.
 
 ghost use Rattle.asn_rules.specs.Children.{Is, StandsBy};
-ghost use Rattle.asn_literals.specs.Parts.{if_there};
+ghost use Rattle.asn_read_nodes.specs.Parts.{if_there};
 ghost use Rattle.asn_rules.specs.Nodes.{child_of};
 ghost use Rattle.asn_rules.specs.Whole.{whole_rules};
 ghost use Rattle.asn_rules.specs.declared.names.TheConstants.{ASN1_TYPE, CLASS_FIELD, FIELD_LIST, INFORMATION_OBJECT_CLASS};
@@ -11,14 +11,15 @@ ghost use Rattle.std.specs.Prelude.{◌≡◌, All, IfOk, Some};
 
 use crate::members::read_default;
 use crate::types::read_type;
-use asn_literals::children;
-use asn_markers::OptionalMarker;
 use asn_memory::{List, Mem, Text};
-use asn_pieces::{is_unique, read_field, read_optional, read_syntax};
+use asn_read_nodes::children;
+use asn_read_pieces::{is_unique, read_field, read_optional, read_syntax};
 use asn_rules::{Node, names};
-use asn_syntax::{InformationObjectSyntax, ObjectFieldIdentifier, SyntaxExpression, SyntaxToken};
 use asn_tree::{
     ASN1Type, ASN1Value, InformationObjectClass, InformationObjectClassField, ObjectIdentifier,
+};
+use asn_tree_leaves::{
+    InformationObjectSyntax, ObjectFieldIdentifier, OptionalMarker, SyntaxExpression, SyntaxToken,
 };
 use std::alloc::Global;
 
@@ -117,7 +118,7 @@ fn read_class_field(alloc: Global, text: &[u8], node: &Node) -> Mem<InformationO
 }
 
 /// The fields among the nodes.
-#[tactic(auto, using(asn_literals::proofs::Views::as_rule, asn_literals::proofs::Equations::takes_next, asn_literals::proofs::Equations::passes_next))]
+#[tactic(auto, using(asn_read_nodes::proofs::Views::as_rule, asn_read_nodes::proofs::Equations::takes_next, asn_read_nodes::proofs::Equations::passes_next))]
 fn read_each(alloc: Global, text: &[u8], nodes: &[Node]) -> Mem<List<InformationObjectClassField>>
     requires { All (StandsBy whole_rules text.now) nodes.now }
     ensures { IfOk result (λ fields. class_fields_in text.now nodes.now ≡ Some fields) }

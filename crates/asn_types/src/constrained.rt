@@ -11,20 +11,22 @@ ghost use Rattle.std.specs.Prelude.{◌≡◌, IfOk, Some};
 
 use crate::types::read_behind;
 use asn_calls::ASN1TypeCalls;
-use asn_kinds::DistinguishedValue;
-use asn_literals::{read_name, read_parent};
 use asn_memory::{List, Mem, Text};
-use asn_pieces::{read_class_name, read_distinguished_values, read_field_path, read_string_type};
+use asn_read_nodes::{read_name, read_parent};
+use asn_read_pieces::{
+    read_class_name, read_distinguished_values, read_field_path, read_string_type,
+};
 use asn_rules::{Node, names};
-use asn_syntax::ObjectFieldIdentifier;
 use asn_tree::{
     ASN1Type, BitString, Boolean, CharacterString, Constraint, GeneralizedTime,
     InformationObjectFieldReference, Integer, ObjectIdentifier, OctetString, Real, Time, UTCTime,
 };
+use asn_tree_kinds::DistinguishedValue;
+use asn_tree_leaves::ObjectFieldIdentifier;
 use std::alloc::Global;
 
 /// The type that a node of one of these forms is, with these constraints (X.680 17.1).
-#[tactic(auto, using(asn_literals::proofs::Views::as_rule))]
+#[tactic(auto, using(asn_read_nodes::proofs::Views::as_rule))]
 pub(crate) fn with_constraints(
     alloc: Global,
     text: &[u8],
@@ -346,7 +348,7 @@ fn named(
 }
 
 /// A type reference: the path to it, its name and these constraints (X.680 14.1, X.681 15).
-#[tactic(auto, using(crate::proofs::ViewsTypes::elsewhere_has_path, crate::proofs::ViewsTypes::elsewhere_has_name, asn_pieces::proofs::Views::title_has_blanks))]
+#[tactic(auto, using(crate::proofs::ViewsTypes::elsewhere_has_path, crate::proofs::ViewsTypes::elsewhere_has_name, asn_read_pieces::proofs::Views::title_has_blanks))]
 fn elsewhere(
     alloc: Global,
     text: &[u8],

@@ -3,7 +3,7 @@
 //! The readers of types call [`read_constraints`] for what stands behind a type. Sets of values are read by `sets.rt`, the
 //! arguments of templates by `arguments.rt`.
 
-ghost use Rattle.asn_literals.specs.Parts.{all_some};
+ghost use Rattle.asn_read_nodes.specs.Parts.{all_some};
 ghost use Rattle.asn_rules.specs.Children.{Is, StandsBy};
 ghost use Rattle.asn_rules.specs.Nodes.{at_children, child_of};
 ghost use Rattle.asn_rules.specs.Whole.{whole_rules};
@@ -17,15 +17,15 @@ use crate::elements::read_element_form;
 use crate::objects::read_object_set;
 use crate::sets::read_set;
 use crate::types::read_type;
-use asn_kinds::RelationalConstraint;
-use asn_literals::children;
 use asn_memory::{List, Mem};
-use asn_pieces::read_relations;
+use asn_read_nodes::children;
+use asn_read_pieces::read_relations;
 use asn_rules::{Node, names};
 use asn_tree::{
     ASN1Type, Constraint, ContentConstraint, ElementOrSetOperation, ElementSet, SubtypeElement,
     TableConstraint,
 };
+use asn_tree_kinds::RelationalConstraint;
 use asn_values::read_value;
 use std::alloc::Global;
 
@@ -40,7 +40,7 @@ pub(crate) fn read_constraints(alloc: Global, text: &[u8], node: &Node) -> Mem<L
 }
 
 #[cycle(reading)]
-#[tactic(auto, using(asn_literals::proofs::Views::as_rule, asn_literals::proofs::Equations::takes_next, asn_literals::proofs::Equations::passes_next))]
+#[tactic(auto, using(asn_read_nodes::proofs::Views::as_rule, asn_read_nodes::proofs::Equations::takes_next, asn_read_nodes::proofs::Equations::passes_next))]
 fn read_each(alloc: Global, text: &[u8], nodes: &[Node]) -> Mem<List<Constraint>>
     requires { All (StandsBy whole_rules text.now) nodes.now }
     ensures { IfOk result (λ constraints. all_some (at_children nodes.now CONSTRAINT_ITEM (constraint_of text.now)) ≡ Some constraints) }

@@ -10,8 +10,8 @@ ghost use Rattle.asn_types.specs.Dummies.{class_before, dummies_in, dummy_of, pa
 ghost use Rattle.std.specs.Prelude.{◌≡◌, All, IfOk, IsSome, Some};
 
 use crate::types::read_type;
-use asn_literals::{children, read_name};
 use asn_memory::{List, Mem};
+use asn_read_nodes::{children, read_name};
 use asn_rules::{Node, names};
 use asn_tree::{ParameterGovernor, Parameterization, ParameterizationArgument};
 use std::alloc::Global;
@@ -28,7 +28,7 @@ fn read_type_before(alloc: Global, text: &[u8], node: &Node) -> Mem<ParameterGov
 }
 
 /// The class before a name.
-#[tactic(auto, using(asn_literals::proofs::Views::identifier_has_blanks))]
+#[tactic(auto, using(asn_read_nodes::proofs::Views::identifier_has_blanks))]
 fn read_class_before(alloc: Global, text: &[u8], node: &Node) -> Mem<ParameterGovernor>
     requires stands { StandsBy whole_rules text.now node.now }
     requires has_name { IsSome (child_of node.now IDENTIFIER) }
@@ -40,7 +40,7 @@ fn read_class_before(alloc: Global, text: &[u8], node: &Node) -> Mem<ParameterGo
 
 /// A dummy: one in small letters, governed by the type before it or by nothing; another, governed by the class before it or
 /// by nothing (X.683 8.1).
-#[tactic(auto, using(crate::proofs::ViewsConstraints::dummy_has_name, asn_literals::proofs::Views::name_has_blanks, asn_literals::proofs::Views::identifier_has_blanks))]
+#[tactic(auto, using(crate::proofs::ViewsConstraints::dummy_has_name, asn_read_nodes::proofs::Views::name_has_blanks, asn_read_nodes::proofs::Views::identifier_has_blanks))]
 fn read_dummy(alloc: Global, text: &[u8], node: &Node) -> Mem<ParameterizationArgument>
     requires { Is whole_rules text.now DUMMY node.now }
     ensures { IfOk result (λ dummy. dummy_of text.now node.now ≡ Some dummy) }
@@ -68,7 +68,7 @@ fn read_dummy(alloc: Global, text: &[u8], node: &Node) -> Mem<ParameterizationAr
 }
 
 /// The dummies among the nodes.
-#[tactic(auto, using(asn_literals::proofs::Views::as_rule, asn_literals::proofs::Equations::takes_next, asn_literals::proofs::Equations::passes_next))]
+#[tactic(auto, using(asn_read_nodes::proofs::Views::as_rule, asn_read_nodes::proofs::Equations::takes_next, asn_read_nodes::proofs::Equations::passes_next))]
 fn read_each(alloc: Global, text: &[u8], nodes: &[Node]) -> Mem<List<ParameterizationArgument>>
     requires { All (StandsBy whole_rules text.now) nodes.now }
     ensures { IfOk result (λ dummies. dummies_in text.now nodes.now ≡ Some dummies) }

@@ -2,7 +2,7 @@
 //!
 //! `sets.rt` calls [`read_subtype`]; `constraints.rt` calls [`read_element_form`] for a SIZE without parentheses around it.
 
-ghost use Rattle.asn_literals.specs.Parts.{all_some};
+ghost use Rattle.asn_read_nodes.specs.Parts.{all_some};
 ghost use Rattle.asn_rules.specs.Children.{Is, StandsBy};
 ghost use Rattle.asn_rules.specs.Nodes.{at_children};
 ghost use Rattle.asn_rules.specs.Whole.{whole_rules};
@@ -16,9 +16,9 @@ use crate::constraints::read_constraints;
 use crate::ranges::{read_range, read_single_value};
 use crate::sets::{read_rest, read_set};
 use crate::types::{read_behind, read_type};
-use asn_literals::{children, read_name};
 use asn_memory::{Box, List, Mem};
-use asn_pieces::{
+use asn_read_nodes::{children, read_name};
+use asn_read_pieces::{
     is_extensible, is_partial, read_pattern, read_presence, read_settings, read_user_defined,
 };
 use asn_rules::{Node, names};
@@ -37,7 +37,7 @@ pub(crate) fn read_subtype(alloc: Global, text: &[u8], node: &Node) -> Mem<Subty
 
 /// The element that a node of one of the forms of elements is (X.680 51.1).
 #[cycle(reading)]
-#[tactic(auto, using(crate::proofs::EquationsOfConstraints::element_form_is, asn_literals::proofs::Views::as_rule))]
+#[tactic(auto, using(crate::proofs::EquationsOfConstraints::element_form_is, asn_read_nodes::proofs::Views::as_rule))]
 pub(crate) fn read_element_form(alloc: Global, text: &[u8], node: &Node) -> Mem<SubtypeElement>
     requires { IsElement text.now node.now }
     ensures { IfOk result (λ element. element_form_of text.now node.now ≡ Some element) }
@@ -117,7 +117,7 @@ fn read_listed(alloc: Global, text: &[u8], node: &Node) -> Mem<List<ConstrainedC
 }
 
 #[cycle(reading)]
-#[tactic(auto, using(asn_literals::proofs::Views::as_rule, asn_literals::proofs::Equations::takes_next, asn_literals::proofs::Equations::passes_next))]
+#[tactic(auto, using(asn_read_nodes::proofs::Views::as_rule, asn_read_nodes::proofs::Equations::takes_next, asn_read_nodes::proofs::Equations::passes_next))]
 fn read_each(alloc: Global, text: &[u8], nodes: &[Node]) -> Mem<List<ConstrainedComponent>>
     requires { All (StandsBy whole_rules text.now) nodes.now }
     ensures { IfOk result (λ listed. all_some (at_children nodes.now SUBSET_MEMBER (listed_one_of text.now)) ≡ Some listed) }
@@ -133,7 +133,7 @@ fn read_each(alloc: Global, text: &[u8], nodes: &[Node]) -> Mem<List<Constrained
 
 /// A listed component: its name, the constraints on its value, and what is asked of its presence (X.680 51.8.7).
 #[cycle(reading)]
-#[tactic(auto, using(crate::proofs::EquationsOfConstraints::listed_one_is, crate::proofs::ViewsConstraints::listed_one_has_name, asn_literals::proofs::Views::identifier_has_blanks))]
+#[tactic(auto, using(crate::proofs::EquationsOfConstraints::listed_one_is, crate::proofs::ViewsConstraints::listed_one_has_name, asn_read_nodes::proofs::Views::identifier_has_blanks))]
 fn read_listed_one(alloc: Global, text: &[u8], node: &Node) -> Mem<ConstrainedComponent>
     requires { Is whole_rules text.now SUBSET_MEMBER node.now }
     ensures { IfOk result (λ listed. listed_one_of text.now node.now ≡ Some listed) }

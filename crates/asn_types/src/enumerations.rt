@@ -4,19 +4,19 @@ ghost use Rattle.asn_rules.specs.Children.{Is};
 ghost use Rattle.asn_rules.specs.Whole.{whole_rules};
 ghost use Rattle.asn_rules.specs.Nodes.{nth_child_of, the};
 ghost use Rattle.asn_rules.specs.declared.names.TheConstants.{ENUMERAL_LIST, ENUMERATED};
-ghost use Rattle.asn_pieces.specs.Enumerations.{items_of};
+ghost use Rattle.asn_read_pieces.specs.Enumerations.{items_of};
 ghost use Rattle.asn_types.specs.Enumerations.{an_enumerated, numbered, numbers_of, numbers_written};
 ghost use Rattle.asn_types.specs.Forms.{enumerated_type_of};
 ghost use Rattle.std.specs.Option.{option_map};
 ghost use Rattle.std.specs.Prelude.{◌≡◌, IfOk, Some};
 
-use asn_kinds::Enumeral;
-use asn_markers::ExtensionMarker;
 use asn_memory::{List, Mem};
-use asn_numbers::enumerate;
-use asn_pieces::{WrittenItem, read_extension, read_items};
+use asn_read_pieces::{WrittenItem, read_extension, read_items};
 use asn_rules::{Node, names};
 use asn_tree::{ASN1Type, Enumerated};
+use asn_tree_kinds::Enumeral;
+use asn_tree_leaves::ExtensionMarker;
+use asn_tree_numbers::enumerate;
 use std::alloc::Global;
 
 /// The numbers that are written behind the items, each where it stands.

@@ -23,7 +23,7 @@ mod readers;
 mod sets;
 mod types;
 
-pub use asn_pieces::{
+pub use asn_read_pieces::{
     asn_tag, asn_tag_at, distinguished_val, distinguished_values, optional_marker, set_operator,
 };
 pub use built::{

@@ -12,15 +12,15 @@ ghost use Rattle.std.specs.Prelude.{◌≡◌, All, IfOk, IsSome, Some};
 
 use crate::choices::read_tag_before;
 use crate::types::{read_behind, read_type};
-use asn_headers::AsnTag;
-use asn_literals::{children, read_name};
-use asn_markers::{ExtensionMarker, OptionalMarker};
 use asn_memory::{List, Mem, Text};
-use asn_pieces::{read_component_path, read_extension, read_group_name, read_optional};
+use asn_read_nodes::{children, read_name};
+use asn_read_pieces::{read_component_path, read_extension, read_group_name, read_optional};
 use asn_rules::{Node, names};
 use asn_tree::{
     ASN1Type, ASN1Value, Constraint, SequenceComponent, SequenceOrSet, SequenceOrSetMember,
 };
+use asn_tree_headers::AsnTag;
+use asn_tree_leaves::{ExtensionMarker, OptionalMarker};
 use asn_values::read_value;
 use std::alloc::Global;
 
@@ -59,7 +59,7 @@ fn member(
 
 /// A member: its name, its tag, its type, the constraints behind the type, OPTIONAL, and its default (X.680 25.1).
 #[cycle(reading)]
-#[tactic(auto, using(crate::proofs::Equations::member_is, asn_pieces::proofs::Views::member_has_name, crate::proofs::ViewsTypes::member_has_type, crate::proofs::ViewsTypes::member_has_marker, crate::proofs::ViewsTypes::member_has_default, asn_literals::proofs::Views::identifier_has_blanks))]
+#[tactic(auto, using(crate::proofs::Equations::member_is, asn_read_pieces::proofs::Views::member_has_name, crate::proofs::ViewsTypes::member_has_type, crate::proofs::ViewsTypes::member_has_marker, crate::proofs::ViewsTypes::member_has_default, asn_read_nodes::proofs::Views::identifier_has_blanks))]
 pub(crate) fn read_member(alloc: Global, text: &[u8], node: &Node) -> Mem<SequenceOrSetMember>
     requires { Is whole_rules text.now SEQUENCE_OR_SET_MEMBER node.now }
     ensures { IfOk result (λ made. member_of text.now node.now ≡ Some made) }
@@ -107,7 +107,7 @@ fn read_components(alloc: Global, text: &[u8], node: &Node) -> Mem<List<Sequence
 }
 
 #[cycle(reading)]
-#[tactic(auto, using(asn_literals::proofs::Views::as_rule, crate::proofs::Equations::takes_component, crate::proofs::Equations::takes_group, crate::proofs::Equations::passes_component))]
+#[tactic(auto, using(asn_read_nodes::proofs::Views::as_rule, crate::proofs::Equations::takes_component, crate::proofs::Equations::takes_group, crate::proofs::Equations::passes_component))]
 fn read_component_list(alloc: Global, text: &[u8], nodes: &[Node]) -> Mem<List<SequenceComponent>>
     requires { All (StandsBy whole_rules text.now) nodes.now }
     ensures { IfOk result (λ components. components_in text.now nodes.now ≡ Some components) }

@@ -1,12 +1,12 @@
 //! Objects and sets of objects: fields by their names, items in a class's own syntax, and the items of sets.
 
-ghost use Rattle.asn_literals.specs.Parts.{all_some};
+ghost use Rattle.asn_read_nodes.specs.Parts.{all_some};
 ghost use Rattle.asn_rules.specs.Children.{Is, StandsBy};
 ghost use Rattle.asn_rules.specs.Nodes.{at_child, at_children, child_of};
 ghost use Rattle.asn_rules.specs.Whole.{whole_rules};
 ghost use Rattle.asn_rules.specs.declared.names.TheConstants.{ASN1_TYPE, CUSTOM_ITEM, CUSTOM_SYNTAX, DEFAULT_FIELD, DEFAULT_SYNTAX, INFORMATION_OBJECT, LITERAL_WORD, MARK_COMMA, OBJECT_ITEM, OBJECT_LIST, OBJECT_SET, SET_MORE};
 ghost use Rattle.asn_rules.specs.declared.node.Node.TheViews.{out-Node};
-ghost use Rattle.asn_pieces.specs.Fields.{capitals_of};
+ghost use Rattle.asn_read_pieces.specs.Fields.{capitals_of};
 ghost use Rattle.asn_tree.specs.declared.types.ASN1Type.TheVariants.{ElsewhereDeclaredType};
 ghost use Rattle.asn_types.specs.Objects.{field_name, object_set_with, reference_item, type_item, word_item};
 ghost use Rattle.asn_types.specs.Reading.{custom_item_of, custom_syntax_of, default_field_of, default_syntax_of, object_item_of, object_list_of, object_of, object_set_of};
@@ -14,9 +14,9 @@ ghost use Rattle.std.specs.Option.{option_copied};
 ghost use Rattle.std.specs.Prelude.{◌≡◌, [], All, IfOk, None, Some};
 
 use crate::types::read_type;
-use asn_literals::{children, read_name};
 use asn_memory::{List, Mem, Text};
-use asn_pieces::{read_literal_word, read_syntax_literal};
+use asn_read_nodes::{children, read_name};
+use asn_read_pieces::{read_literal_word, read_syntax_literal};
 use asn_rules::{Node, names};
 use asn_tree::{
     ASN1Type, DeclarationElsewhere, FixedValueField, InformationObjectField,
@@ -56,7 +56,7 @@ fn read_default_syntax(alloc: Global, text: &[u8], node: &Node) -> Mem<List<Info
 }
 
 #[cycle(reading)]
-#[tactic(auto, using(asn_literals::proofs::Views::as_rule, asn_literals::proofs::Equations::takes_next, asn_literals::proofs::Equations::passes_next))]
+#[tactic(auto, using(asn_read_nodes::proofs::Views::as_rule, asn_read_nodes::proofs::Equations::takes_next, asn_read_nodes::proofs::Equations::passes_next))]
 fn read_default_fields(
     alloc: Global,
     text: &[u8],
@@ -75,7 +75,7 @@ fn read_default_fields(
 }
 
 /// The name of a field with its `&`.
-#[tactic(auto, using(crate::proofs::ViewsObjects::field_has_name, asn_pieces::proofs::Views::single_has_blanks, asn_pieces::proofs::Views::multiple_has_blanks))]
+#[tactic(auto, using(crate::proofs::ViewsObjects::field_has_name, asn_read_pieces::proofs::Views::single_has_blanks, asn_read_pieces::proofs::Views::multiple_has_blanks))]
 fn read_field_name(alloc: Global, text: &[u8], node: &Node) -> Mem<Text>
     requires { Is whole_rules text.now DEFAULT_FIELD node.now }
     ensures { IfOk result (λ name. field_name text.now (out-Node node.now).children ≡ Some name) }
@@ -120,7 +120,7 @@ fn read_custom_syntax(alloc: Global, text: &[u8], node: &Node) -> Mem<List<Synta
 }
 
 #[cycle(reading)]
-#[tactic(auto, using(asn_literals::proofs::Views::as_rule, asn_literals::proofs::Equations::takes_next, asn_literals::proofs::Equations::passes_next))]
+#[tactic(auto, using(asn_read_nodes::proofs::Views::as_rule, asn_read_nodes::proofs::Equations::takes_next, asn_read_nodes::proofs::Equations::passes_next))]
 fn read_custom_items(alloc: Global, text: &[u8], nodes: &[Node]) -> Mem<List<SyntaxApplication>>
     requires { All (StandsBy whole_rules text.now) nodes.now }
     ensures { IfOk result (λ items. all_some (at_children nodes.now CUSTOM_ITEM (custom_item_of text.now)) ≡ Some items) }
@@ -274,7 +274,7 @@ fn read_object_list(alloc: Global, text: &[u8], node: &Node) -> Mem<List<ObjectS
 }
 
 #[cycle(reading)]
-#[tactic(auto, using(asn_literals::proofs::Views::as_rule, asn_literals::proofs::Equations::takes_next, asn_literals::proofs::Equations::passes_next))]
+#[tactic(auto, using(asn_read_nodes::proofs::Views::as_rule, asn_read_nodes::proofs::Equations::takes_next, asn_read_nodes::proofs::Equations::passes_next))]
 fn read_object_items(alloc: Global, text: &[u8], nodes: &[Node]) -> Mem<List<ObjectSetValue>>
     requires { All (StandsBy whole_rules text.now) nodes.now }
     ensures { IfOk result (λ items. all_some (at_children nodes.now OBJECT_ITEM (object_item_of text.now)) ≡ Some items) }
@@ -290,7 +290,7 @@ fn read_object_items(alloc: Global, text: &[u8], nodes: &[Node]) -> Mem<List<Obj
 
 /// An item of a set: an object, or the name of an object or a set (X.681 12.3).
 #[cycle(reading)]
-#[tactic(auto, using(crate::proofs::EquationsOfObjects::object_item_is, crate::proofs::ViewsObjects::set_item_has_name, asn_literals::proofs::Views::identifier_has_blanks))]
+#[tactic(auto, using(crate::proofs::EquationsOfObjects::object_item_is, crate::proofs::ViewsObjects::set_item_has_name, asn_read_nodes::proofs::Views::identifier_has_blanks))]
 fn read_object_item(alloc: Global, text: &[u8], node: &Node) -> Mem<ObjectSetValue>
     requires { Is whole_rules text.now OBJECT_ITEM node.now }
     ensures { IfOk result (λ item. object_item_of text.now node.now ≡ Some item) }

@@ -7,7 +7,7 @@ ghost use Rattle.asn_types.specs.Sets.{end_of, ends_of, range_of, single_value_o
 ghost use Rattle.std.specs.Prelude.{◌≡◌, IfOk, Some};
 
 use asn_memory::Mem;
-use asn_pieces::{is_extensible, is_high_open, is_low_open};
+use asn_read_pieces::{is_extensible, is_high_open, is_low_open};
 use asn_rules::{Node, names};
 use asn_tree::{ASN1Value, SubtypeElement};
 use asn_values::read_value;

@@ -10,12 +10,12 @@ ghost use Rattle.asn_types.specs.Sets.{an_operation};
 ghost use Rattle.std.specs.Prelude.{◌≡◌, IfOk, Some};
 
 use crate::elements::read_subtype;
-use asn_kinds::SetOperator;
 use asn_memory::Mem;
-use asn_pieces::{is_extensible, read_operator};
+use asn_read_pieces::{is_extensible, read_operator};
 use asn_rules::{Node, names};
-use asn_same::beside;
 use asn_tree::{ElementOrSetOperation, ElementSet, SetOperation, SubtypeElement};
+use asn_tree_equality::beside;
+use asn_tree_kinds::SetOperator;
 use std::alloc::Global;
 
 /// A set of values, extensible where a marker stands behind it (X.680 50.1).

@@ -16,7 +16,7 @@ use crate::constraints::read_constraints;
 use crate::enumerations::read_enumerated;
 use crate::members::read_body;
 use asn_memory::{List, Mem};
-use asn_pieces::read_selection;
+use asn_read_pieces::read_selection;
 use asn_rules::{Node, names};
 use asn_tree::{ASN1Type, Constraint, SequenceOrSet, SequenceOrSetOf};
 use std::alloc::Global;
@@ -33,7 +33,7 @@ pub fn read_type(alloc: Global, text: &[u8], node: &Node) -> Mem<ASN1Type>
 
 /// The type that a node of one of the forms of types is.
 #[cycle(reading)]
-#[tactic(auto, using(crate::proofs::Equations::form_is, crate::proofs::LeftOver::left_over, crate::proofs::LeftOver::left_over_is, asn_literals::proofs::Views::as_rule))]
+#[tactic(auto, using(crate::proofs::Equations::form_is, crate::proofs::LeftOver::left_over, crate::proofs::LeftOver::left_over_is, asn_read_nodes::proofs::Views::as_rule))]
 fn read_form(alloc: Global, text: &[u8], node: &Node) -> Mem<ASN1Type>
     requires { IsType text.now node.now }
     ensures { IfOk result (λ ty. form_of text.now node.now ≡ Some ty) }

@@ -6,7 +6,7 @@ use Rattle.asn_rules.specs.declared.node.Node.{Node}
 use Rattle.asn_rules.specs.declared.node.Node.TheViews.{out-Node, roll-Node, roll-out-Node}
 use Rattle.asn_rules.specs.Nodes.{at_children, child_among, child_of, closed, first_among, first_child_of, made, the}
 use Rattle.asn_rules.proofs.Nodes.{made_all_paired, made_paired, opened, paired, para_out}
-use Rattle.asn_literals.specs.Parts.{all_some}
+use Rattle.asn_read_nodes.specs.Parts.{all_some}
 use Rattle.asn_values.specs.Braces.{Valued, choice_of, choice_with, first_form, form_of, item_of, item_with, items_of, leaf_of, nodes, sequence_of, sequence_with, value_of, valued_step}
 
 module _ (text : List ℕ) where

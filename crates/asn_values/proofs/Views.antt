@@ -8,7 +8,7 @@ use Rattle.asn_rules.specs.declared.names.TheConstants.{ASN1_VALUE, BINARY, BIT_
 use Rattle.asn_rules.specs.declared.node.Node.{Node}
 use Rattle.asn_rules.specs.declared.node.Node.TheViews.{out-Node}
 use Rattle.asn_rules.proofs.Children.{AllStand, bounds, has_child, kids_stand, one_if, times}
-use Rattle.asn_literals.proofs.Views.{some_among, without}
+use Rattle.asn_read_nodes.proofs.Views.{some_among, without}
 use Rattle.asn_values.proofs.Asked as asked
 use Rattle.asn_values.specs.Braces.{IsValue, is_value}
 

@@ -8,7 +8,7 @@ use Rattle.asn_rules.specs.Whole.{whole_rules}
 use Rattle.asn_rules.specs.Nodes.{Opened, closed, para, at_child, child_among, child_of, the, made, made_all}
 use Rattle.asn_tree.specs.declared.values.ASN1Value.{ASN1Value}
 use Rattle.asn_tree.specs.declared.values.ASN1Value.TheVariants.{All, Choice, Null, SequenceOrSet}
-use Rattle.asn_literals.specs.Parts.{all_some, if_there, name_of, of_some}
+use Rattle.asn_read_nodes.specs.Parts.{all_some, if_there, name_of, of_some}
 use Rattle.asn_values.specs.Leaves.{bit_string_of, boolean_of, character_string_of, elsewhere_of, identifier_of, integer_of, real_of, time_of}
 
 -- the rules of the forms of values

@@ -5,12 +5,12 @@ use Rattle.asn_rules.specs.declared.node.Node.{Node}
 use Rattle.asn_rules.specs.Nodes.{at_child, child_of, the}
 use Rattle.asn_tree.specs.declared.values.ASN1Value.{ASN1Value}
 use Rattle.asn_tree.specs.declared.values.ASN1Value.TheVariants.{BitString, BitStringNamedBits, Boolean, ElsewhereDeclaredValue, Integer, ObjectIdentifier, Real, String, Time}
-use Rattle.asn_literals.specs.Parts.{name_of, number_of, of_some, truth_of}
-use Rattle.asn_literals.specs.Bits.{binary_of, hexadecimal_of, named_bits_of}
-use Rattle.asn_literals.specs.Identifiers.{arcs_of}
-use Rattle.asn_literals.specs.Paths.{parent_of}
-use Rattle.asn_literals.specs.Reals.{decimal_of, parts_of}
-use Rattle.asn_literals.specs.Strings as strings
+use Rattle.asn_read_nodes.specs.Parts.{name_of, number_of, of_some, truth_of}
+use Rattle.asn_read_nodes.specs.Bits.{binary_of, hexadecimal_of, named_bits_of}
+use Rattle.asn_read_nodes.specs.Identifiers.{arcs_of}
+use Rattle.asn_read_nodes.specs.Paths.{parent_of}
+use Rattle.asn_read_nodes.specs.Reals.{decimal_of, parts_of}
+use Rattle.asn_read_nodes.specs.Strings as strings
 
 -- TRUE or FALSE (X.680 18.3)
 abbrev pub boolean_of : Node → Option ASN1Value

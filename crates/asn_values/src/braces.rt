@@ -4,7 +4,7 @@ ghost use Rattle.asn_rules.specs.Children.{Is, StandsBy};
 ghost use Rattle.asn_rules.specs.Whole.{whole_rules};
 ghost use Rattle.asn_rules.specs.Nodes.{at_children};
 ghost use Rattle.asn_rules.specs.declared.names.TheConstants.{ASN1_VALUE, CHOICE_VALUE, SEQUENCE_VALUE, STRUCT_ITEM, VALUE_LIST};
-ghost use Rattle.asn_literals.specs.Parts.{all_some};
+ghost use Rattle.asn_read_nodes.specs.Parts.{all_some};
 ghost use Rattle.asn_values.specs.Braces.{IsValue, a_choice, choice_of, form_of, item_of, items_of, sequence_of, value_of};
 ghost use Rattle.std.specs.Prelude.{◌≡◌, All, IfOk, Some};
 
@@ -12,8 +12,8 @@ use crate::leaves::{
     read_bit_string, read_boolean, read_character_string, read_elsewhere, read_identifier,
     read_real, read_time_value, read_whole,
 };
-use asn_literals::{children, read_name};
 use asn_memory::{Box, List, Mem, Text};
+use asn_read_nodes::{children, read_name};
 use asn_rules::{Node, names};
 use asn_tree::ASN1Value;
 use std::alloc::Global;
@@ -33,7 +33,7 @@ pub fn read_value(alloc: Global, text: &[u8], node: &Node) -> Mem<ASN1Value>
 
 /// The value that a node of one of the forms of values is.
 #[cycle(reading)]
-#[tactic(auto, using(crate::proofs::Equations::form_is, asn_literals::proofs::Views::as_rule))]
+#[tactic(auto, using(crate::proofs::Equations::form_is, asn_read_nodes::proofs::Views::as_rule))]
 fn read_form(alloc: Global, text: &[u8], node: &Node) -> Mem<ASN1Value>
     requires { IsValue text.now node.now }
     ensures { IfOk result (λ value. form_of text.now node.now ≡ Some value) }
@@ -68,7 +68,7 @@ fn choice(name: Text, value: Box<ASN1Value>) -> ASN1Value
 
 /// An option of a CHOICE with its value (X.680 29.11).
 #[cycle(reading)]
-#[tactic(auto, using(crate::proofs::Views::choice_has_name, crate::proofs::Views::choice_has_value, asn_literals::proofs::Views::identifier_has_blanks))]
+#[tactic(auto, using(crate::proofs::Views::choice_has_name, crate::proofs::Views::choice_has_value, asn_read_nodes::proofs::Views::identifier_has_blanks))]
 pub(crate) fn read_choice(alloc: Global, text: &[u8], node: &Node) -> Mem<ASN1Value>
     requires { Is whole_rules text.now CHOICE_VALUE node.now }
     ensures { IfOk result (λ value. choice_of text.now node.now ≡ Some value) }
@@ -101,7 +101,7 @@ fn read_list(alloc: Global, text: &[u8], node: &Node) -> Mem<List<Item>>
 }
 
 #[cycle(reading)]
-#[tactic(auto, using(asn_literals::proofs::Views::as_rule, asn_literals::proofs::Equations::takes_next, asn_literals::proofs::Equations::passes_next))]
+#[tactic(auto, using(asn_read_nodes::proofs::Views::as_rule, asn_read_nodes::proofs::Equations::takes_next, asn_read_nodes::proofs::Equations::passes_next))]
 fn read_items(alloc: Global, text: &[u8], nodes: &[Node]) -> Mem<List<Item>>
     requires { All (StandsBy whole_rules text.now) nodes.now }
     ensures { IfOk result (λ items. all_some (at_children nodes.now STRUCT_ITEM (item_of text.now)) ≡ Some items) }
@@ -117,7 +117,7 @@ fn read_items(alloc: Global, text: &[u8], nodes: &[Node]) -> Mem<List<Item>>
 
 /// An item between braces.
 #[cycle(reading)]
-#[tactic(auto, using(crate::proofs::Equations::item_is, crate::proofs::Views::item_has_value, asn_literals::proofs::Views::name_has_blanks))]
+#[tactic(auto, using(crate::proofs::Equations::item_is, crate::proofs::Views::item_has_value, asn_read_nodes::proofs::Views::name_has_blanks))]
 fn read_item(alloc: Global, text: &[u8], node: &Node) -> Mem<Item>
     requires { Is whole_rules text.now STRUCT_ITEM node.now }
     ensures { IfOk result (λ item. item_of text.now node.now ≡ Some item) }

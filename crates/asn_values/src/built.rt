@@ -4,19 +4,19 @@
 //! `match_rule` of asn_match answers it, and for an offset, in bytes from the start of the text, where its rule has ended. It
 //! tries nothing.
 
-ghost use Rattle.asn_literals.specs.Identifiers.{arcs_of};
-ghost use Rattle.asn_literals.specs.Reads.{BuiltAt, Offers};
+ghost use Rattle.asn_read_nodes.specs.Identifiers.{arcs_of};
+ghost use Rattle.asn_read_nodes.specs.Reads.{BuiltAt, Offers};
 ghost use Rattle.asn_rules.specs.declared.names.TheConstants.{ASN1_VALUE, OBJECT_IDENTIFIER_VALUE};
 ghost use Rattle.asn_values.specs.Braces.{value_of};
 ghost use Rattle.std.specs.Prelude.{◌≡◌, IfOk, Some};
 
 use crate::braces::read_value;
-use asn_headers::ObjectIdentifierValue;
-use asn_literals::{node_at, read_object_identifier};
 use asn_match::MatchTable;
 use asn_memory::Mem;
+use asn_read_nodes::{node_at, read_object_identifier};
 use asn_rules::names;
 use asn_tree::ASN1Value;
+use asn_tree_headers::ObjectIdentifierValue;
 use std::alloc::Global;
 
 /// The value of any form that stands there (X.680 17.7).

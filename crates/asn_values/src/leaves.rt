@@ -6,12 +6,12 @@ ghost use Rattle.asn_rules.specs.declared.names.TheConstants.{BIT_STRING_VALUE, 
 ghost use Rattle.asn_values.specs.Leaves.{bit_string_of, boolean_of, character_string_of, elsewhere_of, identifier_of, integer_of, real_of, time_of};
 ghost use Rattle.std.specs.Prelude.{◌≡◌, IfOk, Some};
 
-use asn_literals::{
+use asn_memory::Mem;
+use asn_read_nodes::{
     read_binary, read_decimal, read_hexadecimal, read_integer, read_name, read_named_bits,
     read_object_identifier, read_parent, read_quadruple, read_quoted, read_real_parts, read_time,
     read_truth,
 };
-use asn_memory::Mem;
 use asn_rules::{Node, names};
 use asn_tree::ASN1Value;
 use std::alloc::Global;
@@ -87,7 +87,7 @@ pub(crate) fn read_time_value(alloc: Global, text: &[u8], node: &Node) -> Mem<AS
 }
 
 /// The name of a value, and what stands before the last dot of a path (X.680 14.1, X.681 15).
-#[tactic(auto, using(crate::proofs::Views::elsewhere_has_path, crate::proofs::Views::elsewhere_has_name, asn_literals::proofs::Views::name_has_blanks))]
+#[tactic(auto, using(crate::proofs::Views::elsewhere_has_path, crate::proofs::Views::elsewhere_has_name, asn_read_nodes::proofs::Views::name_has_blanks))]
 pub(crate) fn read_elsewhere(alloc: Global, text: &[u8], node: &Node) -> Mem<ASN1Value>
     requires { Is whole_rules text.now ELSEWHERE_DECLARED_VALUE node.now }
     ensures { IfOk result (λ value. elsewhere_of text.now node.now ≡ Some value) }

@@ -4,8 +4,8 @@
 //! each answers `TooDeep` exactly where the height of its rule exceeds `depth`, and `Fail` exactly where it does not and
 //! the rule fails: a leaf with the input unchanged and the reader's name.
 
-ghost use Rattle.asn_literals.specs.Identifiers.{arcs_of};
-ghost use Rattle.asn_literals.specs.Reads.{IsFaultAt, ReadsNode};
+ghost use Rattle.asn_read_nodes.specs.Identifiers.{arcs_of};
+ghost use Rattle.asn_read_nodes.specs.Reads.{IsFaultAt, ReadsNode};
 ghost use Rattle.asn_rules.specs.declared.names.TheConstants.{ALL_VALUE, ASN1_VALUE, BIT_STRING_VALUE, BOOLEAN_VALUE, CHARACTER_STRING_VALUE, CHOICE_VALUE, ELSEWHERE_DECLARED_VALUE, INTEGER_VALUE, NULL_VALUE, OBJECT_IDENTIFIER_VALUE, REAL_VALUE, SEQUENCE_VALUE, TIME_VALUE};
 ghost use Rattle.asn_text.specs.Input.{part_of};
 ghost use Rattle.asn_text.specs.Part.{shown};
@@ -19,11 +19,11 @@ use crate::leaves::{
     read_bit_string, read_boolean, read_character_string, read_elsewhere, read_real,
     read_time_value, read_whole,
 };
-use asn_headers::ObjectIdentifierValue;
-use asn_literals::{read_node, read_object_identifier};
+use asn_read_nodes::{read_node, read_object_identifier};
 use asn_rules::names;
 use asn_text::{Input, ParseFault, ParserResult};
 use asn_tree::ASN1Value;
+use asn_tree_headers::ObjectIdentifierValue;
 use std::alloc::Global;
 
 /// The word ALL, as a value.

@@ -1,6 +1,6 @@
 //! The tokens of a class's own syntax at any depth of groups.
 
-ghost use Rattle.asn_notation.specs.Syntax.{flattened, marked_optional, tokens_in, tokens_of, with_mark};
+ghost use Rattle.asn_tree_notation.specs.Syntax.{flattened, marked_optional, tokens_in, tokens_of, with_mark};
 ghost use Rattle.std.specs.Prelude.{◌≡◌, ◌++◌, map, false, IfOk, OnOk};
 
 use asn_memory::{List, Mem, Text};

@@ -1,7 +1,7 @@
 //! Whether an item of an object may stand at the place of a token of its class's own syntax.
 
-ghost use Rattle.asn_notation.specs.Syntax.{gives_type, gives_value, is_comma, is_number, is_text_of, is_word, later_tokens, matches, up_to_required};
-ghost use Rattle.asn_settings.specs.Settings.{starts_with_digit};
+ghost use Rattle.asn_tree_notation.specs.Syntax.{gives_type, gives_value, is_comma, is_number, is_text_of, is_word, later_tokens, matches, up_to_required};
+ghost use Rattle.asn_tree_settings.specs.Settings.{starts_with_digit};
 ghost use Rattle.std.specs.List.{list_any};
 ghost use Rattle.std.specs.Prelude.{◌≡◌};
 

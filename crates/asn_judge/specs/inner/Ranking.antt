@@ -1,8 +1,8 @@
 -- What is said of elements joined by set operators, one by one.
-use Rattle.asn_kinds.specs.declared.constraints.SetOperator.{SetOperator}
-use Rattle.asn_kinds.specs.declared.constraints.SetOperator.TheVariants.{Intersection, Union, Except}
+use Rattle.asn_tree_kinds.specs.declared.constraints.SetOperator.{SetOperator}
+use Rattle.asn_tree_kinds.specs.declared.constraints.SetOperator.TheVariants.{Intersection, Union, Except}
 use Rattle.asn_judge.specs.declared.ranking.Ranking.{Ranking}
-use Rattle.asn_shapes.specs.Answers.{known}
+use Rattle.asn_meaning_shapes.specs.Answers.{known}
 use Rattle.asn_meaning.specs.Answers.{Answer, Yes, No, both, either, denied}
 
 -- of what stands before the last UNION, of what is intersected since, and of the last element with its exclusions

@@ -1,7 +1,7 @@
 -- What is seen of the parts of trees that are compared.
 use Rattle.std.specs.Prelude.{ℕ, Bool, true, false, ◌&&◌, ◌||◌, List, [], ◌∷◌, take, Some, None}
-use Rattle.asn_headers.specs.declared.headers.ObjectIdentifierArc.{ObjectIdentifierArc}
-use Rattle.asn_shapes.specs.declared.trees.Field.{Field, out-Field}
+use Rattle.asn_tree_headers.specs.declared.headers.ObjectIdentifierArc.{ObjectIdentifierArc}
+use Rattle.asn_meaning_shapes.specs.declared.trees.Field.{Field, out-Field}
 use Rattle.asn_meaning.specs.ValueTrees.{ValueTree, Fields, field_named, same_tree}
 
 -- whether the lists are of one length, and each two items at one place pass the test

@@ -1,13 +1,13 @@
 //! Whether a type accepts a tree: what it stands for does, and all constraints of the type and of its place hold.
 
-ghost use Rattle.asn_heads.specs.Kinds.{shown_kind};
-ghost use Rattle.asn_heads.specs.Places.{shown_place};
-ghost use Rattle.asn_heads.specs.Scopes.{shown};
-ghost use Rattle.asn_heads.specs.Trails.{Passes, shown_targets};
+ghost use Rattle.asn_meaning_heads.specs.Kinds.{shown_kind};
+ghost use Rattle.asn_meaning_heads.specs.Places.{shown_place};
+ghost use Rattle.asn_meaning_heads.specs.Scopes.{shown};
+ghost use Rattle.asn_meaning_heads.specs.Trails.{Passes, shown_targets};
 ghost use Rattle.asn_judge.specs.inner.Judging.{type_accepts};
-ghost use Rattle.asn_shapes.specs.Answers.{known};
-ghost use Rattle.asn_shapes.specs.Members.{shown_member, shown_members};
-ghost use Rattle.asn_shapes.specs.Trees.{shown_fields, shown_tree, shown_trees};
+ghost use Rattle.asn_meaning_shapes.specs.Answers.{known};
+ghost use Rattle.asn_meaning_shapes.specs.Members.{shown_member, shown_members};
+ghost use Rattle.asn_meaning_shapes.specs.Trees.{shown_fields, shown_tree, shown_trees};
 ghost use Rattle.asn_meaning.specs.Accepts.{judge};
 ghost use Rattle.asn_meaning.specs.Answers.{each};
 ghost use Rattle.asn_meaning.specs.Judge.{accepts_at, head_accepts, meaning, member_accepts, option_accepts, parts_accepted};
@@ -19,16 +19,16 @@ ghost use Rattle.std.specs.Prelude.{◌≡◌, IfOk, ℕ, ◌+◌};
 
 use crate::characters::characters_fit;
 use crate::judging::constraints::{Held, held_with};
-use asn_heads::{
+use asn_meaning_heads::{
     Kind, Place, Scope, Target, TypeForm, constraints_at, kind_of, option_named, place_at, trail,
 };
-use asn_index::Names;
-use asn_memory::{Mem, OutOfMemory};
-use asn_ranges::numbers_at_head;
-use asn_shapes::{
+use asn_meaning_ranges::numbers_at_head;
+use asn_meaning_shapes::{
     Answer, Field, FieldsByName, Member, MembersByName, Tree, alternative_of, elements_of,
     fields_of, is_of_kind, struct_members,
 };
+use asn_memory::{Mem, OutOfMemory};
+use asn_names_index::Names;
 use asn_tree::{ASN1Type, ChoiceOption, Constraint, SequenceOrSet};
 use std::alloc::Global;
 
@@ -87,7 +87,7 @@ fn accepts_at<'a>(
 /// Whether a type accepts a tree that passes these targets on the way to its head: whether the head does, and from there backwards
 /// whether the constraints of each place hold.
 #[cycle(judging)]
-#[tactic(auto, using(crate::proofs::Passed::stands_end, asn_ranges::proofs::Passed::numbers_end))]
+#[tactic(auto, using(crate::proofs::Passed::stands_end, asn_meaning_ranges::proofs::Passed::numbers_end))]
 fn accepts_on<'a>(
     alloc: Global,
     names: &Names<'a>,
@@ -200,7 +200,7 @@ fn parts_accepted<'a>(
 
 /// Whether a SEQUENCE or SET accepts a tree (X.680 25, 27).
 #[cycle(judging)]
-#[tactic(auto, using(asn_shapes::proofs::Judging::no_struct, asn_shapes::proofs::Judging::struct_unknown, asn_shapes::proofs::Judging::struct_known))]
+#[tactic(auto, using(asn_meaning_shapes::proofs::Judging::no_struct, asn_meaning_shapes::proofs::Judging::struct_unknown, asn_meaning_shapes::proofs::Judging::struct_known))]
 fn struct_accepts<'a>(
     alloc: Global,
     names: &Names<'a>,
@@ -244,7 +244,7 @@ fn fields_accepted<'a>(
 
 /// Whether each member that is present is accepted, and each that is absent may be.
 #[cycle(judging)]
-#[tactic(auto, using(asn_shapes::proofs::Judging::member_next, asn_shapes::proofs::Judging::members_done))]
+#[tactic(auto, using(asn_meaning_shapes::proofs::Judging::member_next, asn_meaning_shapes::proofs::Judging::members_done))]
 fn members_accept<'a>(
     alloc: Global,
     names: &Names<'a>,
@@ -286,7 +286,7 @@ fn member_accepts<'a>(
 
 /// Whether a tree is a list, each element of which the type accepts (X.680 26, 28).
 #[cycle(judging)]
-#[tactic(auto, using(asn_shapes::proofs::Judging::no_list, asn_shapes::proofs::Judging::list_known))]
+#[tactic(auto, using(asn_meaning_shapes::proofs::Judging::no_list, asn_meaning_shapes::proofs::Judging::list_known))]
 fn list_accepts<'a>(
     alloc: Global,
     names: &Names<'a>,
@@ -308,7 +308,7 @@ fn list_accepts<'a>(
 
 /// Whether the type accepts each tree.
 #[cycle(judging)]
-#[tactic(auto, using(asn_shapes::proofs::Judging::element_next, asn_shapes::proofs::Judging::elements_done))]
+#[tactic(auto, using(asn_meaning_shapes::proofs::Judging::element_next, asn_meaning_shapes::proofs::Judging::elements_done))]
 fn elements_accepted<'a>(
     alloc: Global,
     names: &Names<'a>,
@@ -350,7 +350,7 @@ pub(super) fn type_accepts<'a>(
 
 /// Whether a tree is an alternative that an option names, and the option's type accepts it (X.680 29).
 #[cycle(judging)]
-#[tactic(auto, using(asn_shapes::proofs::Judging::no_choice, asn_shapes::proofs::Judging::no_option, asn_shapes::proofs::Judging::option_known))]
+#[tactic(auto, using(asn_meaning_shapes::proofs::Judging::no_choice, asn_meaning_shapes::proofs::Judging::no_option, asn_meaning_shapes::proofs::Judging::option_known))]
 fn choice_accepts<'a>(
     alloc: Global,
     names: &Names<'a>,
@@ -383,7 +383,7 @@ fn choice_accepts<'a>(
 /// Whether a type by itself accepts a tree, within a number of steps.
 ///
 /// Unknown: a name leads nowhere, however many steps there are. Err: want of memory, also where the steps are used up.
-#[tactic(auto, using(asn_heads::proofs::Scoping::shown_nothing))]
+#[tactic(auto, using(asn_meaning_heads::proofs::Scoping::shown_nothing))]
 pub fn judge<'a>(
     alloc: Global,
     names: &Names<'a>,

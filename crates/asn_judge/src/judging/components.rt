@@ -1,11 +1,11 @@
 //! WITH COMPONENTS: what is asked of the members of a SEQUENCE or SET, and of the alternatives of a CHOICE (X.680 51.8.6 to 51.8.9).
 
-ghost use Rattle.asn_heads.specs.Kinds.{shown_kind};
-ghost use Rattle.asn_heads.specs.Scopes.{shown};
-ghost use Rattle.asn_ranges.specs.Parents.{shown_parent};
-ghost use Rattle.asn_shapes.specs.Answers.{known};
-ghost use Rattle.asn_shapes.specs.Members.{shown_member, shown_members};
-ghost use Rattle.asn_shapes.specs.Trees.{shown_fields, shown_tree};
+ghost use Rattle.asn_meaning_heads.specs.Kinds.{shown_kind};
+ghost use Rattle.asn_meaning_heads.specs.Scopes.{shown};
+ghost use Rattle.asn_meaning_ranges.specs.Parents.{shown_parent};
+ghost use Rattle.asn_meaning_shapes.specs.Answers.{known};
+ghost use Rattle.asn_meaning_shapes.specs.Members.{shown_member, shown_members};
+ghost use Rattle.asn_meaning_shapes.specs.Trees.{shown_fields, shown_tree};
 ghost use Rattle.asn_meaning.specs.Answers.{each};
 ghost use Rattle.asn_meaning.specs.Constraints.{choice_holds, inner_at, inner_holds, listed_member_holds, listed_option_holds, member_holds, members_hold, option_holds, struct_holds};
 ghost use Rattle.asn_meaning.specs.Judge.{meaning};
@@ -19,14 +19,14 @@ use crate::presence::{
     are_left_out, is_absent_word, is_choice_allowed, may_be_chosen, must_be_present,
 };
 use crate::trees::same_name;
-use asn_heads::{Kind, Place, Scope, TypeForm, kind_of, option_named};
-use asn_index::Names;
-use asn_memory::{Mem, Text};
-use asn_ranges::Parent;
-use asn_shapes::{
+use asn_meaning_heads::{Kind, Place, Scope, TypeForm, kind_of, option_named};
+use asn_meaning_ranges::Parent;
+use asn_meaning_shapes::{
     Answer, Field, Member, Tree, alternative_of, fields_of, find_field, member_named,
     struct_members,
 };
+use asn_memory::{Mem, Text};
+use asn_names_index::Names;
 use asn_tree::{ChoiceOption, ConstrainedComponent, InnerTypeConstraint, SequenceOrSet};
 use std::alloc::Global;
 

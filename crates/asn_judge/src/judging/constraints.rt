@@ -1,13 +1,13 @@
 //! Constraints written one behind another, each on the type with those before it (X.680 49.6), and sets of elements.
 
-ghost use Rattle.asn_heads.specs.Places.{shown_place};
-ghost use Rattle.asn_heads.specs.Scopes.{shown};
+ghost use Rattle.asn_meaning_heads.specs.Places.{shown_place};
+ghost use Rattle.asn_meaning_heads.specs.Scopes.{shown};
 ghost use Rattle.asn_judge.specs.inner.Judging.{element_holds};
-ghost use Rattle.asn_ranges.specs.Chains.{shown_chain};
-ghost use Rattle.asn_ranges.specs.Parents.{shown_parent};
-ghost use Rattle.asn_ranges.specs.Sets.{shown_numbers};
-ghost use Rattle.asn_shapes.specs.Answers.{known};
-ghost use Rattle.asn_shapes.specs.Trees.{shown_tree};
+ghost use Rattle.asn_meaning_ranges.specs.Chains.{shown_chain};
+ghost use Rattle.asn_meaning_ranges.specs.Parents.{shown_parent};
+ghost use Rattle.asn_meaning_ranges.specs.Sets.{shown_numbers};
+ghost use Rattle.asn_meaning_shapes.specs.Answers.{known};
+ghost use Rattle.asn_meaning_shapes.specs.Trees.{shown_tree};
 ghost use Rattle.asn_meaning.specs.Answers.{both};
 ghost use Rattle.asn_meaning.specs.Constraints.{all_hold, constraint_at, constraint_holds, part_holds, set_holds};
 ghost use Rattle.asn_meaning.specs.Judge.{meaning};
@@ -19,11 +19,11 @@ ghost use Rattle.std.specs.Prelude.{◌≡◌, IfOk, ℕ, ◌+◌};
 
 use crate::judging::elements::holds;
 use crate::ranking::Ranking;
-use asn_heads::{Place, Scope, constraints_in, head};
-use asn_index::Names;
+use asn_meaning_heads::{Place, Scope, constraints_in, head};
+use asn_meaning_ranges::{Chain, Numbers, Parent, chain, is_free, narrowed, numbers};
+use asn_meaning_shapes::{Answer, Tree};
 use asn_memory::Mem;
-use asn_ranges::{Chain, Numbers, Parent, chain, is_free, narrowed, numbers};
-use asn_shapes::{Answer, Tree};
+use asn_names_index::Names;
 use asn_tree::{Constraint, ElementOrSetOperation};
 use std::alloc::Global;
 

@@ -1,12 +1,12 @@
 //! Whether an element of a constraint holds of a tree (X.680 51).
 
-ghost use Rattle.asn_heads.specs.Places.{shown_place};
-ghost use Rattle.asn_heads.specs.Scopes.{shown};
+ghost use Rattle.asn_meaning_heads.specs.Places.{shown_place};
+ghost use Rattle.asn_meaning_heads.specs.Scopes.{shown};
 ghost use Rattle.asn_judge.specs.inner.Judging.{character_holds, characters_hold};
-ghost use Rattle.asn_ranges.specs.Parents.{shown_parent};
-ghost use Rattle.asn_ranges.specs.Sets.{shown_numbers};
-ghost use Rattle.asn_shapes.specs.Answers.{known};
-ghost use Rattle.asn_shapes.specs.Trees.{shown_tree, shown_trees};
+ghost use Rattle.asn_meaning_ranges.specs.Parents.{shown_parent};
+ghost use Rattle.asn_meaning_ranges.specs.Sets.{shown_numbers};
+ghost use Rattle.asn_meaning_shapes.specs.Answers.{known};
+ghost use Rattle.asn_meaning_shapes.specs.Trees.{shown_tree, shown_trees};
 ghost use Rattle.asn_meaning.specs.Constraints.{alphabet_holds, component_holds, holds_at, part_holds, set_holds, size_holds, sizes};
 ghost use Rattle.asn_meaning.specs.Judge.{meaning};
 ghost use Rattle.asn_meaning.specs.Shapes.{list_judged, trees_judged};
@@ -21,11 +21,11 @@ use crate::judging::constraints::{part_holds, set_holds};
 use crate::singles::{range_holds, single_holds};
 use crate::sizes::{size_numbers, size_place, size_tree};
 use crate::trees::counted;
-use asn_heads::{Place, Scope};
-use asn_index::Names;
+use asn_meaning_heads::{Place, Scope};
+use asn_meaning_ranges::{Numbers, Parent, codes_of};
+use asn_meaning_shapes::{Answer, Tree, element_place, elements_of};
 use asn_memory::{Mem, OutOfMemory};
-use asn_ranges::{Numbers, Parent, codes_of};
-use asn_shapes::{Answer, Tree, element_place, elements_of};
+use asn_names_index::Names;
 use asn_tree::{Constraint, ElementOrSetOperation, SubtypeElement};
 use std::alloc::Global;
 
@@ -270,7 +270,7 @@ fn component_holds<'a>(
 
 /// Whether a tree is a list, and constraints on the elements' type hold of each element.
 #[cycle(judging)]
-#[tactic(auto, using(asn_shapes::proofs::Judging::no_list, asn_shapes::proofs::Judging::list_known))]
+#[tactic(auto, using(asn_meaning_shapes::proofs::Judging::no_list, asn_meaning_shapes::proofs::Judging::list_known))]
 fn list_holds<'a>(
     alloc: Global,
     names: &Names<'a>,
@@ -293,7 +293,7 @@ fn list_holds<'a>(
 
 /// Whether constraints on the elements' type hold of each element.
 #[cycle(judging)]
-#[tactic(auto, using(asn_shapes::proofs::Judging::element_next, asn_shapes::proofs::Judging::elements_done))]
+#[tactic(auto, using(asn_meaning_shapes::proofs::Judging::element_next, asn_meaning_shapes::proofs::Judging::elements_done))]
 fn elements_hold<'a>(
     alloc: Global,
     names: &Names<'a>,

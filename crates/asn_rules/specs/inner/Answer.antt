@@ -5,7 +5,7 @@ use Rattle.asn_rules.specs.Runs.{Ending, ends, fails, seen, judged, Answer}
 use Rattle.asn_rules.specs.declared.run.Outcome.{Outcome}
 use Rattle.asn_rules.specs.declared.run.Outcome.TheVariants.{End, Fail}
 use Rattle.asn_rules.specs.declared.run.MatchFault.TheVariants.{TooDeep}
-use Rattle.asn_guards.specs.declared.asked.Guard.{Guard}
+use Rattle.asn_rules_guards.specs.declared.asked.Guard.{Guard}
 
 abbrev pub at_height : Ending → ℕ → Outcome
 at_height (ends j) h = End j h

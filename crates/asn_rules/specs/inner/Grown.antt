@@ -7,7 +7,7 @@ use Rattle.asn_rules.specs.Runs.{Ending, ends, fails, seen, judged, Answer}
 use Rattle.asn_rules.specs.Derives.{node}
 use Rattle.asn_rules.specs.declared.run.Outcome.TheVariants as outcome
 use Rattle.asn_rules.specs.declared.run.MatchFault.TheVariants as fault
-use Rattle.asn_guards.specs.declared.asked.Guard.{Guard}
+use Rattle.asn_rules_guards.specs.declared.asked.Guard.{Guard}
 use Rattle.asn_rules.specs.declared.node.Node.{Node}
 
 -- What a try grew: where it ended, its height and its nodes; the height at which it failed; or that the depth was too small.

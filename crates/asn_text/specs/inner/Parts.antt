@@ -1,6 +1,6 @@
 -- What a rule takes, and how it begins.
 use Rattle.std.specs.Prelude.{◌≡◌, ℕ, ◌≤◌, Bool, true, false, ◌||◌, List, take, nat_eq}
-use Rattle.asn_guards.specs.Allows.{allows}
+use Rattle.asn_rules_guards.specs.Allows.{allows}
 use Rattle.asn_rules.specs.Expression.{Expression, rule, seq, skip, guarded, rule_of, Sight, bytes, word as whole_word}
 use Rattle.asn_rules.specs.Runs.{ends, Runs}
 use Rattle.asn_rules.specs.Whole.{whole_rules}

@@ -1,6 +1,6 @@
 //! Equality of constraints and of arguments.
 
-ghost use Rattle.asn_same.specs.Equality.{same_by, same_by-laws};
+ghost use Rattle.asn_tree_equality.specs.Equality.{same_by, same_by-laws};
 ghost use Rattle.std.specs.Prelude.{◌≡◌, ◌↔◌, IsTrue};
 
 use crate::constraints::{
@@ -11,7 +11,7 @@ use crate::equality::objects::{same_information_object_fields, same_object_set_v
 use crate::equality::types::same_asn1_type;
 use crate::equality::values::{same_asn1_value, same_optional_asn1_value};
 use asn_memory::List;
-use asn_same::{SameTree, same};
+use asn_tree_equality::{SameTree, same};
 
 #[cycle(comparing)]
 fn same_constraint(left: &Constraint, right: &Constraint) -> bool

@@ -1,13 +1,13 @@
 //! Equality of definitions and of their parameters.
 
-ghost use Rattle.asn_same.specs.Equality.{same_by, same_by-laws};
+ghost use Rattle.asn_tree_equality.specs.Equality.{same_by, same_by-laws};
 ghost use Rattle.std.specs.Prelude.{◌≡◌, ◌↔◌, IsTrue};
 
 use crate::definitions::{
     ParameterGovernor, Parameterization, ParameterizationArgument, ToplevelDefinition,
     ToplevelInformationDefinition, ToplevelTypeDefinition, ToplevelValueDefinition,
 };
-use asn_same::{SameTree, same};
+use asn_tree_equality::{SameTree, same};
 
 impl SameTree for ToplevelDefinition {
     fn is_same(&self, other: &Self) -> bool {

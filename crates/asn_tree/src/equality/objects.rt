@@ -1,6 +1,6 @@
 //! Equality of classes, objects and their fields.
 
-ghost use Rattle.asn_same.specs.Equality.{same_by, same_by-laws};
+ghost use Rattle.asn_tree_equality.specs.Equality.{same_by, same_by-laws};
 ghost use Rattle.std.specs.Prelude.{◌≡◌, ◌↔◌, IsTrue};
 
 use crate::equality::constraints::same_constraints;
@@ -12,7 +12,7 @@ use crate::objects::{
     SyntaxApplication,
 };
 use asn_memory::List;
-use asn_same::{SameTree, same};
+use asn_tree_equality::{SameTree, same};
 
 impl SameTree for ClassLink {
     fn is_same(&self, other: &Self) -> bool {

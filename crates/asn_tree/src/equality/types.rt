@@ -1,6 +1,6 @@
 //! Equality of types and of their parts.
 
-ghost use Rattle.asn_same.specs.Equality.{same_by, same_by-laws};
+ghost use Rattle.asn_tree_equality.specs.Equality.{same_by, same_by-laws};
 ghost use Rattle.std.specs.Prelude.{◌≡◌, ◌↔◌, IsTrue};
 
 use crate::equality::constraints::same_constraints;
@@ -10,7 +10,7 @@ use crate::types::{
     SequenceOrSetMember, SequenceOrSetOf,
 };
 use asn_memory::List;
-use asn_same::{SameTree, same};
+use asn_tree_equality::{SameTree, same};
 
 impl<C: SameTree> SameTree for IntegerOver<C> {
     fn is_same(&self, other: &Self) -> bool {

@@ -1,12 +1,12 @@
 //! Equality of values.
 
-ghost use Rattle.asn_same.specs.Equality.{same_by, same_by-laws};
+ghost use Rattle.asn_tree_equality.specs.Equality.{same_by, same_by-laws};
 ghost use Rattle.std.specs.Prelude.{◌≡◌, ◌↔◌, IsTrue};
 
 use crate::equality::types::same_asn1_type;
 use crate::values::{ASN1Value, LinkedField, StructLikeFieldValue};
 use asn_memory::{Box, List, Text};
-use asn_same::{SameTree, same};
+use asn_tree_equality::{SameTree, same};
 
 #[cycle(comparing)]
 pub(super) fn same_asn1_value(left: &ASN1Value, right: &ASN1Value) -> bool

@@ -1,6 +1,6 @@
 //! Making constraints.
 
-ghost use Rattle.asn_kinds.specs.MakingConstraints.{component_of};
+ghost use Rattle.asn_tree_kinds.specs.MakingConstraints.{component_of};
 ghost use Rattle.asn_tree.specs.MakingConstraints.{operation_of};
 ghost use Rattle.asn_tree.specs.declared.constraints.SubtypeElement.TheVariants.{MultipleTypeConstraints, SizeConstraint};
 ghost use Rattle.std.specs.Prelude.{◌≡◌, IfOk, Ok, Some, false, true, is_some, map};
@@ -11,10 +11,10 @@ use crate::constraints::{
 };
 use crate::types::ASN1Type;
 use crate::values::ASN1Value;
-use asn_kinds::{ComponentPresence, SetOperator};
-use asn_markers::{ExtensionMarker, RangeSeperator};
 use asn_memory::{Box, List, Mem};
-use asn_same::{beside, boxed_each};
+use asn_tree_equality::{beside, boxed_each};
+use asn_tree_kinds::{ComponentPresence, SetOperator};
+use asn_tree_leaves::{ExtensionMarker, RangeSeperator};
 use std::alloc::Global;
 
 /// The encoding of a value of the type.

@@ -1,6 +1,6 @@
 //! Making definitions and their parameters.
 
-ghost use Rattle.asn_same.specs.Making.{lines_joined};
+ghost use Rattle.asn_tree_equality.specs.Making.{lines_joined};
 ghost use Rattle.asn_tree.specs.declared.objects.ClassLink.TheVariants.{ByName};
 ghost use Rattle.std.specs.Prelude.{◌≡◌, [], IfOk, None, Some, map};
 ghost use Rattle.asn_tree.specs.declared.definitions.ParameterGovernor.TheVariants as governor;
@@ -16,9 +16,9 @@ use crate::objects::{
 };
 use crate::types::ASN1Type;
 use crate::values::ASN1Value;
-use asn_headers::AsnTag;
 use asn_memory::{List, Mem, Text};
-use asn_same::{beside, joined};
+use asn_tree_equality::{beside, joined};
+use asn_tree_headers::AsnTag;
 use std::alloc::Global;
 
 /// These parameters in their order.

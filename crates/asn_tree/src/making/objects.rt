@@ -1,6 +1,6 @@
 //! Making information object classes, objects and object sets.
 
-ghost use Rattle.asn_syntax.specs.Syntax.{name_of_field};
+ghost use Rattle.asn_tree_leaves.specs.Syntax.{name_of_field};
 ghost use Rattle.std.specs.Prelude.{◌≡◌};
 
 use crate::objects::{
@@ -9,9 +9,10 @@ use crate::objects::{
 };
 use crate::types::ASN1Type;
 use crate::values::ASN1Value;
-use asn_markers::OptionalMarker;
 use asn_memory::List;
-use asn_syntax::{InformationObjectSyntax, ObjectFieldIdentifier, SyntaxExpression};
+use asn_tree_leaves::{
+    InformationObjectSyntax, ObjectFieldIdentifier, OptionalMarker, SyntaxExpression,
+};
 
 /// The class with these fields, and with this syntax where one is given.
 impl From<

@@ -1,6 +1,6 @@
 //! Making types.
 
-ghost use Rattle.asn_same.specs.Making.{listed};
+ghost use Rattle.asn_tree_equality.specs.Making.{listed};
 ghost use Rattle.asn_tree.specs.MakingTypes.{IsAddition, bounded, choice_of, list_of, member_of, option_of, sequence_of, sequence_of_members};
 ghost use Rattle.std.specs.Option.{option_map};
 ghost use Rattle.std.specs.Prelude.{◌≡◌, ◌↔◌, IfOk, IsTrue, Ok, Some};
@@ -13,11 +13,11 @@ use crate::types::{
     SequenceOrSetMember, SequenceOrSetOf,
 };
 use crate::values::ASN1Value;
-use asn_headers::AsnTag;
-use asn_kinds::DistinguishedValue;
-use asn_markers::{ExtensionMarker, OptionalMarker};
 use asn_memory::{Box, List, Mem, Text};
-use asn_same::{appended, beside, listed, marked};
+use asn_tree_equality::{appended, beside, listed, marked};
+use asn_tree_headers::AsnTag;
+use asn_tree_kinds::DistinguishedValue;
+use asn_tree_leaves::{ExtensionMarker, OptionalMarker};
 use std::alloc::Global;
 
 impl<C> IntegerOver<C> {

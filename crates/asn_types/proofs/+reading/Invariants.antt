@@ -1,8 +1,8 @@
 use Rattle.std.proofs.Common.{◌≡◌, drop}
 use Rattle.asn_rules.specs.Nodes.{at_children}
 use Rattle.asn_rules.specs.declared.names.TheConstants.{CONSTRAINT_ITEM, CUSTOM_ITEM, DEFAULT_FIELD, OBJECT_ITEM, PARAMETER, SUBSET_MEMBER}
-use Rattle.asn_literals.proofs.Equations.{behind}
-use Rattle.asn_literals.specs.Parts.{all_some}
+use Rattle.asn_read_nodes.proofs.Equations.{behind}
+use Rattle.asn_read_nodes.specs.Parts.{all_some}
 use Rattle.asn_types.specs.Children.{components_in, options_in}
 use Rattle.asn_types.specs.Reading.{constraint_of, custom_item_of, default_field_of, listed_one_of, object_item_of, parameter_of}
 use Rattle.asn_types.proofs.+reading.Given as goal

@@ -4,7 +4,7 @@
 //! each answers `TooDeep` exactly where the height of its rule exceeds `depth`, and `Fail` exactly where it does not and
 //! the rule fails: a leaf with the input unchanged and the reader's name.
 
-ghost use Rattle.asn_literals.specs.Reads.{IsFaultAt, ReadsNode};
+ghost use Rattle.asn_read_nodes.specs.Reads.{IsFaultAt, ReadsNode};
 ghost use Rattle.asn_rules.specs.declared.names.TheConstants.{CONSTRAINT, PARAMETERIZATION, PARAMETERS, SINGLE_CONSTRAINT};
 ghost use Rattle.asn_text.specs.Input.{part_of};
 ghost use Rattle.asn_text.specs.Part.{shown};
@@ -15,8 +15,8 @@ ghost use Rattle.std.specs.Prelude.{◌≡◌, codes, IfErr, IfOk, Some};
 use crate::arguments::read_parameters;
 use crate::constraints::{read_constraints, read_single};
 use crate::dummies::read_parameterization;
-use asn_literals::read_node;
 use asn_memory::List;
+use asn_read_nodes::read_node;
 use asn_rules::names;
 use asn_text::{Input, ParseFault, ParserResult};
 use asn_tree::{Constraint, Parameter, Parameterization};

@@ -1,6 +1,6 @@
 //! The public readers of classes, objects and sets of objects.
 
-ghost use Rattle.asn_literals.specs.Reads.{IsFaultAt, ReadsNode};
+ghost use Rattle.asn_read_nodes.specs.Reads.{IsFaultAt, ReadsNode};
 ghost use Rattle.asn_rules.specs.declared.names.TheConstants.{INFORMATION_OBJECT, INFORMATION_OBJECT_CLASS, OBJECT_SET, TYPE_IDENTIFIER};
 ghost use Rattle.asn_text.specs.Input.{part_of};
 ghost use Rattle.asn_text.specs.Part.{shown};
@@ -10,7 +10,7 @@ ghost use Rattle.std.specs.Prelude.{◌≡◌, codes, IfErr, IfOk, Some};
 
 use crate::classes::{built_in_class, read_class};
 use crate::objects::{read_object, read_object_set};
-use asn_literals::read_node;
+use asn_read_nodes::read_node;
 use asn_rules::names;
 use asn_text::{Input, ParseFault, ParserResult};
 use asn_tree::{InformationObjectClass, InformationObjectFields, ObjectSet};

@@ -1,6 +1,6 @@
 //! The public readers of types and of what stands in them.
 
-ghost use Rattle.asn_literals.specs.Reads.{IsFaultAt, ReadsNode};
+ghost use Rattle.asn_read_nodes.specs.Reads.{IsFaultAt, ReadsNode};
 ghost use Rattle.asn_rules.specs.declared.names.TheConstants.{ASN1_TYPE, BIT_STRING, BOOLEAN, CHARACTER_STRING, CHOICE, DEFAULT, ELSEWHERE_DECLARED_TYPE, EMBEDDED_PDV, ENUMERATED, EXTERNAL, GENERALIZED_TIME, INFORMATION_OBJECT_FIELD_REFERENCE, INSTANCE_OF, INTEGER, NULL, OBJECT_IDENTIFIER, OCTET_STRING, REAL, SELECTION_TYPE_CHOICE, SEQUENCE, SEQUENCE_COMPONENT, SEQUENCE_OF, SEQUENCE_OR_SET_MEMBER, SET, SET_OF, TIME, UTC_TIME};
 ghost use Rattle.asn_text.specs.Input.{part_of};
 ghost use Rattle.asn_text.specs.Part.{shown};
@@ -21,7 +21,7 @@ use crate::members::{read_component, read_default, read_member};
 use crate::types::{
     read_selection_type, read_sequence, read_sequence_of, read_set_of, read_set_type, read_type,
 };
-use asn_literals::read_node;
+use asn_read_nodes::read_node;
 use asn_rules::names;
 use asn_text::{Input, ParseFault, ParserResult};
 use asn_tree::{

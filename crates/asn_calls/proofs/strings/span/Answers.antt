@@ -1,5 +1,5 @@
 use Rattle.std.proofs.Common.{◌∙◌, ◌++◌, ◌+◌, ap, sym}
-use Rattle.asn_notation.specs.Strings.{span}
+use Rattle.asn_tree_notation.specs.Strings.{span}
 use Rattle.asn_calls.proofs.CharacterSpans.{span_more, span_done}
 use Rattle.asn_calls.proofs.strings.span.Goals as goal
 

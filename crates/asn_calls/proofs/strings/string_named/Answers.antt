@@ -1,4 +1,4 @@
-use Rattle.asn_notation.specs.Strings.{string_named}
+use Rattle.asn_tree_notation.specs.Strings.{string_named}
 use Rattle.asn_calls.proofs.OtherWords.{other}
 use Rattle.asn_calls.proofs.strings.string_named.Goals as goal
 

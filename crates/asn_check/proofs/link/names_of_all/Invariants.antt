@@ -1,5 +1,5 @@
 use Rattle.std.proofs.Common.{◌≡◌, ◌++◌, drop, map}
-use Rattle.asn_index.specs.Definitions.{name_of}
+use Rattle.asn_names_index.specs.Definitions.{name_of}
 use Rattle.asn_check.proofs.link.names_of_all.Given as goal
 
 abbrev pub invariant-loop-definition : goal.invariant-loop-definition

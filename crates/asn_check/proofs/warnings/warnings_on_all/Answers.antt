@@ -1,32 +1,23 @@
-use Rattle.std.proofs.Common.{map, refl, sym, subst, get_or, false}
-use Rattle.std.specs.Prelude.{◌↔◌, IsTrue}
-use Rattle.asn_circles.specs.Circles.{FollowsNoCircle, LeadsToNoCircle}
-use Rattle.asn_index.specs.Definitions.{name_of}
+use Rattle.std.proofs.Common.{map, refl, sym, subst}
+use Rattle.asn_names_index.specs.Definitions.{last_named, name_of}
+use Rattle.asn_check.specs.Judged.{IsJudgementOf}
 use Rattle.asn_check.specs.Warnings.{AreWarningsOn, said_by}
-use Rattle.asn_linking.specs.Linked.{is_told}
-use Rattle.asn_check.proofs.Warned.{begun, next_warned, all_warned, free_at, free_there}
+use Rattle.asn_link.specs.Linked.{is_told}
+use Rattle.asn_check.proofs.Judged.{judged_at, judged_there}
+use Rattle.asn_check.proofs.Warned.{begun, next_warned, all_warned}
 use Rattle.asn_check.proofs.warnings.warnings_on_all.Goals as goal
 
 pub loop-i-init : goal.loop-i-init
 loop-i-init c = begun c.args.names.now.definitions.now (is_told (map (λ n. n.now) c.args.all.now) c.args.made.now) (λ d. name_of d.now) _ c.args.definitions.now c.new-warnings.result refl c.new-warnings.ensures
 
-pub bounds-free-i : goal.bounds-free-i
-bounds-free-i c = free_there (λ d. name_of d.now) _ c.args.definitions.now c.args.free.now c.loop-i.i c.requires.free c.loop-i-test.true
+pub told_at-judgement-requires : goal.told_at-judgement-requires
+told_at-judgement-requires c = judged_there c.args.names.now.definitions.now (λ d. name_of d.now) c.args.definitions.now c.args.judgements.now c.loop-i.i c.requires.judged c.loop-i-test.true
 
-pub bounds-follow-i : goal.bounds-follow-i
-bounds-follow-i c = free_there (λ d. name_of d.now) _ c.args.definitions.now c.args.follow.now c.loop-i.i c.requires.follow c.loop-i-test.true
-
-pub warnings_on-requires-clause-free : goal.warnings_on-requires-clause-free
-warnings_on-requires-clause-free c =
-    subst (λ name. IsTrue (get_or c.args.free.now c.loop-i.i false) ↔ LeadsToNoCircle c.args.names.now.definitions.now name) (sym c.name-name.ensures)
-    (free_at (λ d. name_of d.now) (λ name is_free. IsTrue is_free ↔ LeadsToNoCircle c.args.names.now.definitions.now name) c.args.definitions.now c.args.free.now c.loop-i.i
-    c.index-definitions-i.result c.requires.free c.loop-i-test.true c.index-definitions-i.is)
-
-pub warnings_on-requires-clause-follows : goal.warnings_on-requires-clause-follows
-warnings_on-requires-clause-follows c =
-    subst (λ name. IsTrue (get_or c.args.follow.now c.loop-i.i false) ↔ FollowsNoCircle c.args.names.now.definitions.now name) (sym c.name-name.ensures)
-    (free_at (λ d. name_of d.now) (λ name is_free. IsTrue is_free ↔ FollowsNoCircle c.args.names.now.definitions.now name) c.args.definitions.now c.args.follow.now c.loop-i.i
-    c.index-definitions-i.result c.requires.follow c.loop-i-test.true c.index-definitions-i.is)
+pub warnings_on-requires-clause-judged : goal.warnings_on-requires-clause-judged
+warnings_on-requires-clause-judged c =
+    subst (λ name. IsJudgementOf c.args.names.now.definitions.now name (last_named c.args.names.now.definitions.now name) c.told_at-judgement.result) (sym c.name-name.ensures)
+    (judged_at c.args.names.now.definitions.now (λ d. name_of d.now) c.args.definitions.now c.args.judgements.now c.loop-i.i c.index-definitions-i.result c.told_at-judgement.result c.requires.judged c.loop-i-test.true
+    c.index-definitions-i.is c.told_at-judgement.ensures)
 
 pub loop-i-preserved : goal.loop-i-preserved
 loop-i-preserved c =

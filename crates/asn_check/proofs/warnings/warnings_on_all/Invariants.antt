@@ -1,7 +1,7 @@
 use Rattle.std.proofs.Common.{map, drop}
 use Rattle.asn_check.specs.Warnings.{said_by}
-use Rattle.asn_linking.specs.Linked.{is_told}
-use Rattle.asn_index.specs.Definitions.{name_of}
+use Rattle.asn_link.specs.Linked.{is_told}
+use Rattle.asn_names_index.specs.Definitions.{name_of}
 use Rattle.asn_check.proofs.Warned.{AreBegun}
 use Rattle.asn_check.proofs.warnings.warnings_on_all.Given as goal
 

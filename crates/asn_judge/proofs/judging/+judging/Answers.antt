@@ -2,21 +2,21 @@ use Rattle.std.proofs.Common.{◌≡◌, ◌+◌, ◌-◌, ◌<◌, ◌≤◌, �
 use Rattle.std.proofs.lemmas.List.{length-map}
 use Rattle.std.specs.Option.{option_map}
 use Rattle.std.specs.Str.{chars}
-use Rattle.asn_heads.specs.Kinds.{shown_kind}
-use Rattle.asn_heads.specs.Places.{shown_place, shown_target}
-use Rattle.asn_heads.specs.Scopes.{shown}
-use Rattle.asn_heads.specs.Trails.{place_at, shown_targets}
+use Rattle.asn_meaning_heads.specs.Kinds.{shown_kind}
+use Rattle.asn_meaning_heads.specs.Places.{shown_place, shown_target}
+use Rattle.asn_meaning_heads.specs.Scopes.{shown}
+use Rattle.asn_meaning_heads.specs.Trails.{place_at, shown_targets}
 use Rattle.asn_judge.proofs.Holding.{held_of_all, left_of_all, some_alphabet}
 use Rattle.asn_judge.proofs.Passed.{accepted_all, lost_at_all, stands_at_head, stands_before_these}
 use Rattle.asn_judge.proofs.judging.+judging.Goals as goal
-use Rattle.asn_ranges.proofs.Passed.{numbers_at_the_head, numbers_before_these}
-use Rattle.asn_ranges.specs.Parents.{shown_parent}
-use Rattle.asn_ranges.specs.Sets.{shown_numbers}
+use Rattle.asn_meaning_ranges.proofs.Passed.{numbers_at_the_head, numbers_before_these}
+use Rattle.asn_meaning_ranges.specs.Parents.{shown_parent}
+use Rattle.asn_meaning_ranges.specs.Sets.{shown_numbers}
 use Rattle.asn_judge.specs.inner.Judging.{characters_hold}
-use Rattle.asn_shapes.specs.Answers.{known}
-use Rattle.asn_shapes.specs.Members.{shown_members}
-use Rattle.asn_shapes.specs.Trees.{shown_fields, shown_tree}
-use Rattle.asn_shapes.proofs.Judging.{from, members_done}
+use Rattle.asn_meaning_shapes.specs.Answers.{known}
+use Rattle.asn_meaning_shapes.specs.Members.{shown_members}
+use Rattle.asn_meaning_shapes.specs.Trees.{shown_fields, shown_tree}
+use Rattle.asn_meaning_shapes.proofs.Judging.{from, members_done}
 use Rattle.asn_meaning.specs.Answers.{answer_of, both}
 use Rattle.asn_meaning.specs.Judge.{meaning, member_accepts, parts_accepted}
 use Rattle.asn_meaning.specs.Members.{member_names}

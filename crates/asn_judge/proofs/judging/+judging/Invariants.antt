@@ -1,18 +1,18 @@
 use Rattle.std.proofs.Common.{◌≡◌, ℕ, ◌+◌, ◌-◌, ◌*◌, drop}
 use Rattle.std.specs.Option.{option_map}
-use Rattle.asn_heads.specs.Places.{shown_place}
-use Rattle.asn_heads.specs.Scopes.{shown}
-use Rattle.asn_heads.specs.Trails.{place_at, shown_targets}
+use Rattle.asn_meaning_heads.specs.Places.{shown_place}
+use Rattle.asn_meaning_heads.specs.Scopes.{shown}
+use Rattle.asn_meaning_heads.specs.Trails.{place_at, shown_targets}
 use Rattle.asn_judge.specs.inner.Judging.{characters_hold, element_holds, type_accepts}
 use Rattle.asn_judge.specs.inner.Ranking.{ranks_on}
 use Rattle.asn_judge.proofs.Holding.{ranked_by}
-use Rattle.asn_ranges.specs.Chains.{shown_chain}
-use Rattle.asn_ranges.specs.Parents.{shown_parent}
-use Rattle.asn_ranges.specs.Sets.{shown_numbers}
-use Rattle.asn_shapes.specs.Answers.{known}
-use Rattle.asn_shapes.specs.Members.{shown_members}
-use Rattle.asn_shapes.specs.Trees.{shown_fields, shown_tree, shown_trees}
-use Rattle.asn_shapes.proofs.Judging.{from}
+use Rattle.asn_meaning_ranges.specs.Chains.{shown_chain}
+use Rattle.asn_meaning_ranges.specs.Parents.{shown_parent}
+use Rattle.asn_meaning_ranges.specs.Sets.{shown_numbers}
+use Rattle.asn_meaning_shapes.specs.Answers.{known}
+use Rattle.asn_meaning_shapes.specs.Members.{shown_members}
+use Rattle.asn_meaning_shapes.specs.Trees.{shown_fields, shown_tree, shown_trees}
+use Rattle.asn_meaning_shapes.proofs.Judging.{from}
 use Rattle.asn_meaning.specs.Answers.{both, each}
 use Rattle.asn_meaning.specs.Constraints.{all_hold, listed_member_holds, listed_option_holds, part_holds}
 use Rattle.asn_meaning.specs.Judge.{meaning, member_accepts, stands_for}

@@ -1,7 +1,7 @@
 use Rattle.std.proofs.Common.{◌≡◌, drop}
-use Rattle.asn_shapes.specs.Answers.{known}
-use Rattle.asn_shapes.specs.Members.{shown_members}
-use Rattle.asn_shapes.specs.Trees.{shown_fields}
+use Rattle.asn_meaning_shapes.specs.Answers.{known}
+use Rattle.asn_meaning_shapes.specs.Members.{shown_members}
+use Rattle.asn_meaning_shapes.specs.Trees.{shown_fields}
 use Rattle.asn_meaning.specs.Answers.{answer_of, both, each}
 use Rattle.asn_meaning.specs.Constraints.{is_left_out}
 use Rattle.asn_judge.proofs.presence.are_left_out.Given as goal

@@ -1,7 +1,7 @@
 use Rattle.std.proofs.Common.{◌≡◌, drop}
 use Rattle.std.specs.Prelude.{[]}
 use Rattle.asn_judge.specs.inner.Trees.{in_pairs, seen}
-use Rattle.asn_shapes.specs.Trees.{shown_fields, shown_tree}
+use Rattle.asn_meaning_shapes.specs.Trees.{shown_fields, shown_tree}
 use Rattle.asn_meaning.specs.ValueTrees.{same_fields, same_tree}
 use Rattle.asn_judge.proofs.trees.+comparing.Given as goal
 

@@ -1,5 +1,5 @@
 use Rattle.std.proofs.Common.{◌≡◌, drop}
-use Rattle.asn_shapes.specs.Trees.{shown_fields}
+use Rattle.asn_meaning_shapes.specs.Trees.{shown_fields}
 use Rattle.asn_meaning.specs.ValueTrees.{field_names, is_among}
 use Rattle.asn_judge.proofs.trees.has_field.Given as goal
 

@@ -1,5 +1,5 @@
 use Rattle.std.proofs.Common.{◌≡◌, drop}
-use Rattle.asn_shapes.specs.Trees.{shown_fields}
+use Rattle.asn_meaning_shapes.specs.Trees.{shown_fields}
 use Rattle.asn_meaning.specs.ValueTrees.{are_among, field_names}
 use Rattle.asn_judge.proofs.trees.have_names.Given as goal
 

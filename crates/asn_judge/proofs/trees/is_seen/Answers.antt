@@ -1,6 +1,6 @@
 use Rattle.std.proofs.Common.{◌<◌, ◌≤◌, ◌-◌, ap, arith, length, sym, ◌∙◌}
 use Rattle.std.specs.Str.{bytes_eq}
-use Rattle.asn_shapes.specs.declared.trees.Field.{out-Field}
+use Rattle.asn_meaning_shapes.specs.declared.trees.Field.{out-Field}
 use Rattle.asn_judge.proofs.Comparing.{seen_before, seen_here}
 use Rattle.asn_judge.proofs.trees.is_seen.Goals as goal
 

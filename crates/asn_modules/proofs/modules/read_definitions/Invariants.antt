@@ -1,5 +1,5 @@
 use Rattle.std.proofs.Common.{◌≡◌, drop}
-use Rattle.asn_literals.proofs.Equations.{behind}
+use Rattle.asn_read_nodes.proofs.Equations.{behind}
 use Rattle.asn_modules.specs.Modules.{definitions_in}
 use Rattle.asn_modules.proofs.modules.read_definitions.Given as goal
 

@@ -1,7 +1,7 @@
 use Rattle.std.proofs.Common.{rules}
 use Rattle.asn_rules.specs.declared.names.TheConstants.{ASN_MODULE}
 use Rattle.asn_modules.specs.Modules.{module_of}
-use Rattle.asn_literals.proofs.Equations.{passes_next, takes_next}
+use Rattle.asn_read_nodes.proofs.Equations.{passes_next, takes_next}
 use Rattle.asn_modules.proofs.modules.read_modules.Goals as goal
 use Rattle.asn_modules.proofs.modules.read_modules.Goals.{then-node+in_ok-read_module+in_ok-add, else-node}
 

@@ -2,9 +2,9 @@ use Rattle.std.proofs.Common.{◌≡◌, Result, Err, ap, subst, sym}
 use Rattle.std.specs.List.{All}
 use Rattle.asn_rules.specs.Children.{StandsBy}
 use Rattle.asn_rules.specs.Whole.{whole_rules}
-use Rattle.asn_derivation.specs.declared.errors.SpecError.{SpecError}
-use Rattle.asn_derivation.specs.declared.errors.SpecError.TheVariants as fault
-use Rattle.asn_derivation.proofs.Nodes.{whole_stands}
+use Rattle.asn_read_nodes.specs.declared.errors.SpecError.{SpecError}
+use Rattle.asn_read_nodes.specs.declared.errors.SpecError.TheVariants as fault
+use Rattle.asn_read_nodes.proofs.Nodes.{whole_stands}
 use Rattle.asn_modules.proofs.whole.asn_spec.Goals as goal
 
 same_fault : {A : Type 0} (x y : SpecError) → ◌≡◌ {A = Result A SpecError} (Err x) (Err y) → x ≡ y

@@ -2,7 +2,7 @@ use Rattle.std.proofs.Common.{arith}
 use Rattle.asn_rules.specs.Whole.{whole_rules}
 use Rattle.asn_rules.specs.declared.grammar.Grammar.TheVariants.{Whole}
 use Rattle.asn_modules.specs.Modules.{reading_of}
-use Rattle.asn_derivation.proofs.Readings.{one_reading_by}
+use Rattle.asn_read_nodes.proofs.Readings.{one_reading_by}
 use Rattle.asn_modules.proofs.whole.one_reading.Goals as goal
 
 pub returns : goal.returns

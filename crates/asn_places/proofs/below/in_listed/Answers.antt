@@ -1,9 +1,9 @@
 use Rattle.std.proofs.Common.{rules, ◌≡◌, ◌+◌, ◌++◌, [], ap, ◌∙◌}
 use Rattle.std.specs.Option.{option_map}
-use Rattle.asn_heads.specs.Places.{shown_place}
+use Rattle.asn_meaning_heads.specs.Places.{shown_place}
 use Rattle.asn_needs.specs.PartsOfConstraints.{listed_parts}
 use Rattle.asn_needs.specs.Sites.{seen}
-use Rattle.asn_sites.specs.Sites.{shown_around, shown_sites}
+use Rattle.asn_places_types.specs.Sites.{shown_around, shown_sites}
 use Rattle.asn_places.proofs.below.in_listed.Goals as goal
 
 pub returns : goal.returns

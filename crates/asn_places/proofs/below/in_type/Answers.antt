@@ -1,9 +1,9 @@
 use Rattle.std.proofs.Common.{rules, ◌≡◌, ◌++◌, [], ap, ◌∙◌}
-use Rattle.asn_heads.specs.Kinds.{shown_type}
+use Rattle.asn_meaning_heads.specs.Kinds.{shown_type}
 use Rattle.asn_needs.specs.PartsOfTypes.{type_sites}
 use Rattle.asn_needs.specs.Sites.{seen}
-use Rattle.asn_sites.specs.Sites.{shown_around, shown_sites}
-use Rattle.asn_sites.specs.Forms.{shown_at}
+use Rattle.asn_places_types.specs.Sites.{shown_around, shown_sites}
+use Rattle.asn_places_types.specs.Forms.{shown_at}
 use Rattle.asn_places.proofs.below.in_type.Goals as goal
 
 pub returns : goal.returns

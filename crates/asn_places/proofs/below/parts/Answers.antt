@@ -1,7 +1,7 @@
 use Rattle.std.proofs.Common.{◌+◌, ◌∙◌}
 use Rattle.asn_needs.specs.Sites.{seen}
-use Rattle.asn_sites.specs.Forms.{shown_form}
-use Rattle.asn_sites.specs.Sites.{shown_around}
+use Rattle.asn_places_types.specs.Forms.{shown_form}
+use Rattle.asn_places_types.specs.Sites.{shown_around}
 use Rattle.asn_places.proofs.Beside.{parts_beside}
 use Rattle.asn_places.proofs.below.parts.Goals as goal
 

@@ -1,8 +1,8 @@
 use Rattle.std.proofs.Common.{◌+◌, sym, ap, ◌∙◌}
 use Rattle.asn_needs.specs.Sites.{seen}
-use Rattle.asn_sites.specs.Sites.{shown_around}
+use Rattle.asn_places_types.specs.Sites.{shown_around}
 use Rattle.asn_needs.specs.Stands.{parts_at}
-use Rattle.asn_sites.specs.Forms.{shown_form}
+use Rattle.asn_places_types.specs.Forms.{shown_form}
 use Rattle.asn_places.proofs.below.parts_in.Goals as goal
 
 pub returns-in_ok-in_type-in-AType : goal.returns-in_ok-in_type-in-AType

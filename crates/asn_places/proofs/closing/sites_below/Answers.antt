@@ -1,6 +1,6 @@
 use Rattle.std.proofs.Common.{◌≡◌, ◌<◌, ◌≤◌, ◌+◌, length, get_or, ap, ◌∙◌, arith}
 use Rattle.asn_needs.specs.Sites.{seen}
-use Rattle.asn_sites.specs.Sites.{shown_sites}
+use Rattle.asn_places_types.specs.Sites.{shown_sites}
 use Rattle.asn_places.proofs.Reaching.{begun, done, next}
 use Rattle.asn_places.proofs.closing.sites_below.Goals as goal
 

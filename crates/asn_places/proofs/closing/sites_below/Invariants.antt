@@ -1,6 +1,6 @@
 use Rattle.std.proofs.Common.{◌+◌, ℕ}
 use Rattle.asn_needs.specs.Sites.{seen}
-use Rattle.asn_sites.specs.Sites.{shown_sites}
+use Rattle.asn_places_types.specs.Sites.{shown_sites}
 use Rattle.asn_places.proofs.Reaching.{Reached}
 use Rattle.asn_places.proofs.closing.sites_below.Given as goal
 

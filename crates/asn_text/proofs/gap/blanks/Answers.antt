@@ -1,7 +1,7 @@
 use Rattle.std.proofs.Common.{sym, ◌∙◌, arith}
 use Rattle.std.proofs.lemmas.List.Sums.{prefix_len-drop_yes}
 use Rattle.std.proofs.lemmas.Str.{IsCharBoundary-start, IsCharBoundary-after_ascii}
-use Rattle.asn_guards.specs.Lexical.{is_blank}
+use Rattle.asn_rules_guards.specs.Lexical.{is_blank}
 use Rattle.asn_text.proofs.Standing.{blank_small}
 use Rattle.asn_text.proofs.gap.blanks.Goals as goal
 

@@ -1,7 +1,7 @@
 use Rattle.std.proofs.Common.{◌≡◌, ◌+◌, ◌-◌, ◌≤◌, length, drop}
 use Rattle.std.specs.List.{prefix_len}
 use Rattle.std.specs.Str.{IsCharBoundary}
-use Rattle.asn_guards.specs.Lexical.{is_blank}
+use Rattle.asn_rules_guards.specs.Lexical.{is_blank}
 use Rattle.asn_text.proofs.gap.blanks.Given as goal
 
 abbrev pub invariant-loop-count : goal.invariant-loop-count

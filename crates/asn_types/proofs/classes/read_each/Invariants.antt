@@ -1,5 +1,5 @@
 use Rattle.std.proofs.Common.{◌≡◌, drop}
-use Rattle.asn_literals.proofs.Equations.{behind}
+use Rattle.asn_read_nodes.proofs.Equations.{behind}
 use Rattle.asn_types.specs.Classes.{class_fields_in}
 use Rattle.asn_types.proofs.classes.read_each.Given as goal
 

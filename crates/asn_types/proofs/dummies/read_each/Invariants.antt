@@ -1,5 +1,5 @@
 use Rattle.std.proofs.Common.{◌≡◌, drop}
-use Rattle.asn_literals.proofs.Equations.{behind}
+use Rattle.asn_read_nodes.proofs.Equations.{behind}
 use Rattle.asn_types.specs.Dummies.{dummies_in}
 use Rattle.asn_types.proofs.dummies.read_each.Given as goal
 

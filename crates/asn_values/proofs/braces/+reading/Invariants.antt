@@ -1,8 +1,8 @@
 use Rattle.std.proofs.Common.{◌≡◌, drop}
 use Rattle.asn_rules.specs.Nodes.{at_children}
 use Rattle.asn_rules.specs.declared.names.TheConstants.{STRUCT_ITEM}
-use Rattle.asn_literals.proofs.Equations.{behind}
-use Rattle.asn_literals.specs.Parts.{all_some}
+use Rattle.asn_read_nodes.proofs.Equations.{behind}
+use Rattle.asn_read_nodes.specs.Parts.{all_some}
 use Rattle.asn_values.specs.Braces.{item_of}
 use Rattle.asn_values.proofs.braces.+reading.Given as goal
 

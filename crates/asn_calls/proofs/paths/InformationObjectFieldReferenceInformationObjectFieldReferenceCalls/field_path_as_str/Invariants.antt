@@ -1,5 +1,5 @@
 use Rattle.std.proofs.Common.{◌≡◌, ◌++◌, drop}
-use Rattle.asn_notation.specs.Paths.{path_behind}
+use Rattle.asn_tree_notation.specs.Paths.{path_behind}
 use Rattle.asn_calls.proofs.paths.InformationObjectFieldReferenceInformationObjectFieldReferenceCalls.field_path_as_str.Given as goal
 
 abbrev pub invariant-loop-field : goal.invariant-loop-field

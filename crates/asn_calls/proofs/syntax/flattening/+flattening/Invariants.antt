@@ -1,5 +1,5 @@
 use Rattle.std.proofs.Common.{◌≡◌, ◌++◌, drop, map}
-use Rattle.asn_notation.specs.Syntax.{marked_optional, tokens_of}
+use Rattle.asn_tree_notation.specs.Syntax.{marked_optional, tokens_of}
 use Rattle.asn_calls.proofs.syntax.flattening.+flattening.Given as goal
 
 abbrev pub invariant-add_group-loop-part : goal.invariant-add_group-loop-part

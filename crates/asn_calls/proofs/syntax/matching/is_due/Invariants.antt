@@ -1,6 +1,6 @@
 use Rattle.std.proofs.Common.{◌≡◌, drop}
 use Rattle.std.specs.List.{list_any}
-use Rattle.asn_notation.specs.Syntax.{is_text_of, up_to_required}
+use Rattle.asn_tree_notation.specs.Syntax.{is_text_of, up_to_required}
 use Rattle.asn_calls.proofs.syntax.matching.is_due.Given as goal
 
 abbrev pub invariant-loop-required : goal.invariant-loop-required

@@ -1,5 +1,5 @@
 use Rattle.std.proofs.Common.{◌≡◌, ◌∙◌, true}
-use Rattle.asn_settings.specs.Settings.{starts_with_digit}
+use Rattle.asn_tree_settings.specs.Settings.{starts_with_digit}
 use Rattle.asn_calls.proofs.DecimalNumbers.{parsed}
 use Rattle.asn_calls.proofs.syntax.matching.is_number.Goals as goal
 

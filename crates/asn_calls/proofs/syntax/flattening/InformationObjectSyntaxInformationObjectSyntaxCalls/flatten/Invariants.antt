@@ -1,5 +1,5 @@
 use Rattle.std.proofs.Common.{◌≡◌, ◌++◌, drop}
-use Rattle.asn_notation.specs.Syntax.{flattened}
+use Rattle.asn_tree_notation.specs.Syntax.{flattened}
 use Rattle.asn_calls.proofs.syntax.flattening.InformationObjectSyntaxInformationObjectSyntaxCalls.flatten.Given as goal
 
 abbrev pub invariant-loop-part : goal.invariant-loop-part

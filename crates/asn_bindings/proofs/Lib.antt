@@ -1,3 +1,0 @@
-pub mod Pairing
-pub mod Showing
-pub mod Looking

@@ -1,2 +1,0 @@
-pub mod Dummies
-pub mod Bindings

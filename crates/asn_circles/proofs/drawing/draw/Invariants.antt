@@ -1,6 +1,0 @@
-use Rattle.std.proofs.Common.{map, take}
-use Rattle.asn_name_graph.specs.Drawn.{IsDrawn}
-use Rattle.asn_circles.proofs.drawing.draw.Given as goal
-
-abbrev pub invariant-loop-mentioned : goal.invariant-loop-mentioned
-invariant-loop-mentioned l = IsDrawn (map (λ n. n.now) l.names) (map (map (λ n. n.now)) (take l.mentioned-index l.lists)) l.builder

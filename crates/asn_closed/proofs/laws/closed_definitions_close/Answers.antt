@@ -1,5 +1,0 @@
-use Rattle.asn_closed.proofs.Names.{closed_definitions_close}
-use Rattle.asn_closed.proofs.laws.closed_definitions_close.Goals as goal
-
-pub returns : goal.returns
-returns c = closed_definitions_close c.names_that_stay.ensures

@@ -1,9 +1,0 @@
-use Rattle.std.proofs.Common.{ap}
-use Rattle.asn_heads.proofs.Scoping.{shown_nothing}
-use Rattle.asn_heads.specs.Kinds.{shown_type}
-use Rattle.asn_heads.specs.Values.{shown_value}
-use Rattle.asn_denotes.proofs.Paths.{read_in}
-use Rattle.asn_denotes.proofs.reading.read_outside.Goals as goal
-
-pub returns : goal.returns
-returns c = ap (read_in (shown_value c.args.value) (shown_type c.args.ty)) shown_nothing

@@ -1,0 +1,2 @@
+pub mod Wronging
+pub mod Lacking

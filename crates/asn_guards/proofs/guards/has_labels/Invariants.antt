@@ -1,6 +1,0 @@
-use Rattle.std.proofs.Common.{◌≡◌, true, drop}
-use Rattle.asn_guards.specs.Guards.{has_labels}
-use Rattle.asn_guards.proofs.guards.has_labels.Given as goal
-
-abbrev pub invariant-loop-byte : goal.invariant-loop-byte
-invariant-loop-byte l = has_labels l.slash (drop l.byte-index l.taken) ≡ has_labels true l.taken

@@ -1,7 +1,0 @@
-use Rattle.std.proofs.Common.{sym, ◌∙◌}
-use Rattle.asn_guards.specs.Guards.{bare}
-use Rattle.asn_guards.proofs.SettingTexts.{recurrence_told}
-use Rattle.asn_guards.proofs.setting_pairs.is_recurrence.Goals as goal
-
-pub returns : goal.returns
-returns c = c.is_told.ensures ∙ sym (recurrence_told (bare c.args.text.now))

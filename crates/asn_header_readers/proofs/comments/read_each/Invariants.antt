@@ -1,7 +1,0 @@
-use Rattle.std.proofs.Common.{◌≡◌, drop}
-use Rattle.asn_literals.proofs.Equations.{behind}
-use Rattle.asn_header_readers.specs.Comments.{comments_in}
-use Rattle.asn_header_readers.proofs.comments.read_each.Given as goal
-
-abbrev pub invariant-loop-node : goal.invariant-loop-node
-invariant-loop-node l = behind l.comments (comments_in l.text (drop l.node-index l.nodes)) ≡ comments_in l.text l.nodes

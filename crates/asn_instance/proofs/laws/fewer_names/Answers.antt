@@ -1,5 +1,0 @@
-use Rattle.asn_instance.proofs.FewerTypes.{fewer_names}
-use Rattle.asn_instance.proofs.laws.fewer_names.Goals as goal
-
-pub returns : goal.returns
-returns c = fewer_names

@@ -1,5 +1,0 @@
-use Rattle.asn_instance.proofs.PlainTypes.{instances_are_plain}
-use Rattle.asn_instance.proofs.laws.instances_are_plain.Goals as goal
-
-pub returns : goal.returns
-returns c = instances_are_plain

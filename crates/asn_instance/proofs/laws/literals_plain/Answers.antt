@@ -1,5 +1,0 @@
-use Rattle.asn_instance.proofs.LiteralsPlain.{literals_plain}
-use Rattle.asn_instance.proofs.laws.literals_plain.Goals as goal
-
-pub returns : goal.returns
-returns c = literals_plain

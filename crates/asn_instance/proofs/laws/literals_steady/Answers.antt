@@ -1,5 +1,0 @@
-use Rattle.asn_instance.proofs.LiteralsSteady.{literals_steady}
-use Rattle.asn_instance.proofs.laws.literals_steady.Goals as goal
-
-pub returns : goal.returns
-returns c = literals_steady

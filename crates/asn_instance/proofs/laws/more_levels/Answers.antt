@@ -1,5 +1,0 @@
-use Rattle.asn_instance.proofs.MoreLevels.{more_levels}
-use Rattle.asn_instance.proofs.laws.more_levels.Goals as goal
-
-pub returns : goal.returns
-returns c = more_levels

@@ -1,8 +1,0 @@
-use Rattle.std.proofs.Common.{◌≡◌, ◌++◌, drop, map}
-use Rattle.asn_instances.specs.Made.{tag_each}
-use Rattle.asn_instances.proofs.tags.tag_types.Given as goal
-
-abbrev pub invariant-loop-i : goal.invariant-loop-i
-invariant-loop-i l =
-    l.tags ++ tag_each l.names.definitions.now l.limits.steps l.limits.levels l.limits.in_circles (map (λ d. d.now) (drop l.i l.definitions)) (drop l.i l.free)
-    ≡ tag_each l.names.definitions.now l.limits.steps l.limits.levels l.limits.in_circles (map (λ d. d.now) l.definitions) l.free

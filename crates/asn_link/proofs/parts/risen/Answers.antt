@@ -1,5 +1,0 @@
-use Rattle.std.proofs.Common.{[]}
-use Rattle.asn_link.proofs.parts.risen.Goals as goal
-
-pub returns : goal.returns
-returns c = c.marker_risen.ensures [] 0 0

@@ -1,0 +1,4 @@
+pub mod Made
+pub mod Laws
+pub mod Ways
+pub mod Linked

@@ -1,0 +1,10 @@
+pub mod Told
+pub mod NamesLeft
+pub mod Levels
+pub mod Singles
+pub mod Steady
+pub mod OwnTold
+pub mod Itself
+pub mod Named
+pub mod Components
+pub mod Telling

@@ -1,6 +1,0 @@
-mod Given
-mod Long
-mod Meaning
-mod Left
-mod ByName
-mod Making

@@ -1,9 +1,0 @@
-pub mod Reads
-pub mod Parts
-pub mod Bits
-pub mod Strings
-pub mod Identifiers
-pub mod Paths
-pub mod Reals
-pub mod Exact
-pub mod Enumerals

@@ -1,0 +1,4 @@
+pub mod Retagged
+pub mod Unchanged
+pub mod References
+pub mod Laws

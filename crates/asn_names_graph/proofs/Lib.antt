@@ -1,0 +1,15 @@
+pub mod Builds
+pub mod Closing
+pub mod Ends
+pub mod Leaves
+pub mod Lists
+pub mod Needs
+pub mod OneStep
+pub mod Orders
+pub mod Passes
+pub mod TablesTold
+pub mod Visits
+pub mod Reaching
+pub mod Ascending
+pub mod Added
+pub mod Standing

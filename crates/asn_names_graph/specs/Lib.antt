@@ -1,0 +1,4 @@
+pub mod Graphs
+pub mod Reach
+pub mod inner
+pub mod Drawn

@@ -1,5 +1,0 @@
-use Rattle.asn_numbers.proofs.Distinct.{are_distinct}
-use Rattle.asn_numbers.proofs.laws.numbers_are_distinct.Goals as goal
-
-pub returns : goal.returns
-returns c = are_distinct

@@ -1,5 +1,0 @@
-use Rattle.asn_numbers.proofs.Distinct.{are_one}
-use Rattle.asn_numbers.proofs.laws.numbers_are_one.Goals as goal
-
-pub returns : goal.returns
-returns c = are_one

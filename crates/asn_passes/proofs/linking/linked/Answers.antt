@@ -1,6 +1,0 @@
-use Rattle.asn_heads.specs.Places.{shown_place}
-use Rattle.asn_passes.proofs.linking.linked.Goals as goal
-
-pub returns : goal.returns
-returns c =
-    c.instances_promise.ensures c.args.names.now.definitions.now c.args.limits.steps c.args.limits.levels c.args.down (shown_place c.args.place.now).scope (shown_place c.args.place.now).ty c.in_ok-made.made c.in_ok-made.ensures

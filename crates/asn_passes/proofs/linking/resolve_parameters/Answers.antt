@@ -1,9 +1,0 @@
-use Rattle.std.proofs.Common.{false, subst}
-use Rattle.asn_heads.proofs.Scoping.{shown_nothing}
-use Rattle.asn_tree.specs.declared.types.ASN1Type.TheVariants as type
-use Rattle.asn_passes.specs.Promises.{IsLinkedType}
-use Rattle.asn_passes.proofs.linking.resolve_parameters.Goals as goal
-
-pub returns : goal.returns
-returns c =
-    subst (λ scope. IsLinkedType c.args.names.now.definitions.now c.args.limits.steps c.args.limits.levels false scope (type.ElsewhereDeclaredType c.args.reference.now) c.in_ok-made.made) shown_nothing c.in_ok-made.ensures

@@ -1,7 +1,0 @@
-use Rattle.std.proofs.Common.{◌≡◌, drop}
-use Rattle.asn_literals.proofs.Equations.{behind}
-use Rattle.asn_pieces.specs.Constraints.{relations_in}
-use Rattle.asn_pieces.proofs.constraints.read_each.Given as goal
-
-abbrev pub invariant-loop-node : goal.invariant-loop-node
-invariant-loop-node l = behind l.relations (relations_in l.text (drop l.node-index l.nodes)) ≡ relations_in l.text l.nodes

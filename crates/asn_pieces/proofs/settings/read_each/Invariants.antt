@@ -1,7 +1,0 @@
-use Rattle.std.proofs.Common.{◌≡◌, drop}
-use Rattle.asn_literals.proofs.Equations.{behind}
-use Rattle.asn_pieces.specs.Settings.{settings_in}
-use Rattle.asn_pieces.proofs.settings.read_each.Given as goal
-
-abbrev pub invariant-loop-node : goal.invariant-loop-node
-invariant-loop-node l = behind l.settings (settings_in l.text (drop l.node-index l.nodes)) ≡ settings_in l.text l.nodes

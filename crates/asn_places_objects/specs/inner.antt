@@ -1,0 +1,5 @@
+-- What private contracts alone cite.
+pub mod Asked
+pub mod Beginning
+pub mod Items
+pub mod Fields

@@ -1,0 +1,16 @@
+pub mod Readings
+pub mod Nodes
+pub mod Asked
+pub mod BareNumbers
+pub mod Equations
+pub mod Octets
+pub mod Views
+pub mod Quotes
+pub mod Blanks
+pub mod ExactReadings
+pub mod Slices
+pub mod Derived
+pub mod ItemBytes
+pub mod NumberBytes
+pub mod Enumerals
+pub mod EnumeratedItems

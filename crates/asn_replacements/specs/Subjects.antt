@@ -1,9 +1,0 @@
--- The subject of instances that one of the code stands for.
-use Rattle.asn_heads.specs.Places.{shown_place}
-use Rattle.asn_instance.specs.Subjects.{Subject, OnValues, OnCharacters}
-use Rattle.asn_replacements.specs.declared.subjects.Subject.{Subject as LentSubject}
-use Rattle.asn_replacements.specs.declared.subjects.Subject.TheVariants as subject
-
-abbrev pub shown_subject : LentSubject → Subject
-shown_subject (subject.OnValues head) = OnValues (shown_place head.now)
-shown_subject subject.OnCharacters = OnCharacters

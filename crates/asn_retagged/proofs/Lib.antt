@@ -1,3 +1,0 @@
-pub mod Inductions
-pub mod SameLayers
-pub mod SameTrees

@@ -1,0 +1,13 @@
+use Rattle.std.proofs.Common.{◌≡◌, ◌≤◌, length}
+use Rattle.asn_rules_guards.specs.Outside.{outside}
+use Rattle.asn_rules_guards.proofs.gaps.behind_gap.Given as goal
+
+abbrev pub invariant-loop-rest : goal.invariant-loop-rest
+invariant-loop-rest l =
+    record {
+      same : outside l.rest ≡ outside l.bytes;
+      shorter : length l.rest ≤ length l.bytes;
+    }
+
+abbrev pub decreases-loop-rest : goal.decreases-loop-rest
+decreases-loop-rest l = length l.rest

@@ -1,0 +1,7 @@
+use Rattle.std.proofs.Common.{sym, ◌∙◌}
+use Rattle.asn_rules_guards.specs.Guards.{bare}
+use Rattle.asn_rules_guards.proofs.SettingTexts.{year_told}
+use Rattle.asn_rules_guards.proofs.setting_pairs.is_year.Goals as goal
+
+pub returns : goal.returns
+returns c = c.is_told.ensures ∙ sym (year_told (bare c.args.text.now))

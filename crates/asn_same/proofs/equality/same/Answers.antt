@@ -1,6 +1,0 @@
-use Rattle.std.specs.Bool.{one_answer}
-use Rattle.asn_same.specs.Equality.{same_by-Decides}
-use Rattle.asn_same.proofs.equality.same.Goals as goal
-
-pub returns-clause-gives : goal.returns-clause-gives
-returns-clause-gives g c = one_answer _ _ c.is_same.ensures (same_by-Decides _ c.args.left.now c.args.right.now)

@@ -1,3 +1,0 @@
-pub mod StayingNames
-pub mod Laws
-pub mod Lent

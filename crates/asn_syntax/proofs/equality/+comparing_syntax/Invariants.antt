@@ -1,5 +1,0 @@
-use Rattle.std.proofs.Common.{◌≡◌, take, length}
-use Rattle.asn_syntax.proofs.equality.+comparing_syntax.Given as goal
-
-abbrev pub invariant-same_syntax_expressions-loop-i : goal.invariant-same_syntax_expressions-loop-i
-invariant-same_syntax_expressions-loop-i l = (length l.xs ≡ length l.ys) × (take l.i l.xs ≡ take l.i l.ys)

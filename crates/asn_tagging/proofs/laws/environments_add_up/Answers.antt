@@ -1,5 +1,0 @@
-use Rattle.asn_tagging.proofs.EnvironmentSums.{add_up}
-use Rattle.asn_tagging.proofs.laws.environments_add_up.Goals as goal
-
-pub returns : goal.returns
-returns c = add_up

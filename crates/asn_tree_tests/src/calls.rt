@@ -1,5 +1,0 @@
-//! Calls on trees that no text has.
-
-mod constraints;
-mod items;
-mod values;

@@ -1,5 +1,0 @@
-pub mod Inductions
-pub mod Singles
-pub mod Stays
-pub mod Steady
-pub mod Parts

@@ -1,3 +1,0 @@
-pub mod Unchanged
-pub mod References
-pub mod Laws

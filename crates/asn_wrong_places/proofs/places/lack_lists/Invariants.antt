@@ -1,9 +1,0 @@
-use Rattle.std.proofs.Common.{◌≡◌, drop}
-use Rattle.std.specs.List.{list_any}
-use Rattle.asn_needs.specs.Occurrences.{lacks_list}
-use Rattle.asn_site_names.specs.Occurrences.{shown_occurrences}
-use Rattle.asn_wrong_places.proofs.places.lack_lists.Given as goal
-
-abbrev pub invariant-loop-occurrence : goal.invariant-loop-occurrence
-invariant-loop-occurrence l =
-    list_any (lacks_list l.names.definitions.now) (shown_occurrences (drop l.occurrence-index l.occurrences)) ≡ list_any (lacks_list l.names.definitions.now) (shown_occurrences l.occurrences)
